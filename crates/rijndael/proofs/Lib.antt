@@ -1,0 +1,3 @@
+pub mod StateLaws
+pub mod CipherLaws
+pub mod ScheduleLaws
