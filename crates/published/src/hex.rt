@@ -5,6 +5,7 @@ use std::error::Error;
 use std::fmt;
 
 // Bytes as they are printed: two hexadecimal digits each, a space between.
+#[derive(Clone, Copy)]
 pub struct Hex<'a>(pub &'a [u8]);
 
 pub impl fmt::Display for Hex<'_> as HexDisplay {

@@ -1,5 +1,4 @@
 ghost use Rattle.rijndael.specs.Cipher.{encrypt as encryptOf, decrypt as decryptOf};
-
 use super::rijndael::Rijndael;
 use kernel::Kernel;
 
