@@ -37,7 +37,7 @@ impl KernelCase {
 }
 
 // How a comparison is told.
-fn verdict(agrees: bool) -> &'static str {
+pub fn verdict(agrees: bool) -> &'static str {
     if agrees { "equal" } else { "differs" }
 }
 

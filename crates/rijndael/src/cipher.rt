@@ -14,7 +14,7 @@ use super::state::unshift;
 use super::state::unsub;
 
 // Round key n.
-fn key(keys: &Keys, n: usize) -> State
+pub(super) fn key(keys: &Keys, n: usize) -> State
     requires { ⌜ n < 15 ⌝ }
     ensures { λ r. ⌜ r ≡ keyOf (now (keys .entry)) n ⌝ }
 {

@@ -1,11 +1,15 @@
 ghost use mathlib.Core.Path.{_≡_};
+ghost use Prim.Native.Nat.{_<_, _≤_};
+ghost use Rattle.std.specs.Options.{Cases};
 ghost use Rattle.block.specs.Refusals.{Answers};
 ghost use Rattle.rijndael.specs.Schedule.{keyGround, roundKeys};
-ghost use Rattle.rijndael.specs.Cipher.{KeysAreBytes, encrypt as encryptOf, decrypt as decryptOf};
+ghost use Rattle.rijndael.specs.Cipher.{KeysAreBytes, key as keyOf, encrypt as encryptOf, decrypt as decryptOf};
+ghost use Rattle.rijndael.specs.State.{store as stored};
 ghost use Rattle.rijndael.specs.Laws.{RoundTrips};
 use super::cipher;
 use super::schedule::round_keys;
 use super::state::Keys;
+use super::state::store;
 use block::Refusal;
 
 // The cipher under one key, whose schedule is expanded once.
@@ -25,6 +29,16 @@ impl Rijndael {
         }
         let keys = round_keys(key);
         Ok(Rijndael { keys })
+    }
+
+    // Round key n, words 8n to 8n+7 byte by byte, or none where n is above 14.
+    pub fn round_key(&self, n: usize) -> Option<[u8; 32]>
+        ensures { λ r. ⌜ Cases r (15 ≤ n) (λ k. (n < 15) × (k ≡ stored (keyOf (now (self .entry) .keys) n))) ⌝ }
+    {
+        if n > 14 {
+            return None;
+        }
+        Some(store(cipher::key(&self.keys, n)))
     }
 
     // The block, encrypted.

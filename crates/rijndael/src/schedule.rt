@@ -112,7 +112,7 @@ fn key_row(words: &Words, n: usize, r: usize) -> Row
 }
 
 // The round keys of a key of 32 bytes.
-pub fn round_keys(key: &[u8]) -> Keys
+pub(super) fn round_keys(key: &[u8]) -> Keys
     requires { ⌜ length (now key) ≡ 32 ⌝ }
     ensures { λ r. ⌜ r ≡ roundKeys (now (key .entry)) ⌝ }
 {
