@@ -78,9 +78,9 @@ swap a b c d =
     ∙ ap (λ (t : ℕ). bitXor a t) (sym (xor-assoc b c d) ∙ ap (λ (t : ℕ). bitXor t d) (xor-comm b c) ∙ xor-assoc c b d)
     ∙ sym (xor-assoc a c (bitXor b d))
 
-xtime-form : (b : ℕ) → b < 256 → xtime b ≡ bitXor (b * 2) (b / 128 * 283)
+xtime-split : (b : ℕ) → b < 256 → xtime b ≡ bitXor (b * 2) (b / 128 * 283)
 unfolding xtime
-xtime-form = agree xtime (λ b. bitXor (b * 2) (b / 128 * 283)) tt
+xtime-split = agree xtime (λ b. bitXor (b * 2) (b / 128 * 283)) tt
 
 double-xor : (x y : ℕ) → bitXor x y * 2 ≡ bitXor (x * 2) (y * 2)
 double-xor x y = let e = xor-block 1 x y 0 0 (lit< tt) (lit< tt) in simp add-zero at (sym e)
@@ -92,9 +92,9 @@ carry-xor p q h k =
 
 pub xtime-xor : (x y : ℕ) → x < 256 → y < 256 → xtime (bitXor x y) ≡ bitXor (xtime x) (xtime y)
 xtime-xor x y h k =
-    let f = xtime-form (bitXor x y) (xor-lt 8 x y h k) in
-    let g = xtime-form x h in
-    let i = xtime-form y k in
+    let f = xtime-split (bitXor x y) (xor-lt 8 x y h k) in
+    let g = xtime-split x h in
+    let i = xtime-split y k in
     let d = double-xor x y in
     let s : bitXor x y / 128 ≡ bitXor (x / 128) (y / 128) = xor-shr x y 7 in
     let q = carry-xor (x / 128) (y / 128) (omega arith) (omega arith) in
