@@ -1,7 +1,7 @@
-use block::fill_block;
-use block::xor_blocks;
 use block::Refusal;
 use block::RefusalDisplay;
+use block::fill_block;
+use block::xor_blocks;
 use kernel::Kernel;
 use milenage::cut;
 use milenage::derive_opc;

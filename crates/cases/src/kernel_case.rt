@@ -1,5 +1,5 @@
-use block::fill_block;
 use block::Refusal;
+use block::fill_block;
 use kernel::Kernel;
 use published::Tally;
 use rijndael::Rijndael;

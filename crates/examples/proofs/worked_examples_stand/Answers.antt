@@ -8,6 +8,10 @@ use Rattle.std.proofs.shelf.Equals.{sameBytes-decides}
 use Rattle.field.specs.Field.{xtime, product, mul, power, inverse, bit, affineBit, ofBits, affine, S}
 use Rattle.rijndael.specs.State.{mixBy}
 use Rattle.rijndael.specs.Schedule.{doubled, xorWord, rotWord, subWord, change, next, more, words}
+use Rattle.block.specs.Bytes.{_⊕_, filled}
+use Rattle.milenage.specs.Functions.{kindOf}
+use Rattle.milenage.specs.Question.{byte0, byte1, header, input}
+use Rattle.milenage.specs.Blocks.{versionBlock}
 use Rattle.examples.specs.Rows.{Row, rows, EveryRowYields}
 use Rattle.examples.proofs.worked_examples_stand.Needs as need
 
@@ -34,5 +38,5 @@ tested (r ∷ rs) t =
     (from-decides same (r .yields ≡ r .published) (sameBytes-decides (r .yields) (r .published)) (left same (test rs) t), tested rs (right same (test rs) t))
 
 pub returns : need.returns
-unfolding xtime product mul power inverse bit affineBit ofBits affine S mixBy doubled xorWord rotWord subWord change next more words
+unfolding xtime product mul power inverse bit affineBit ofBits affine S mixBy doubled xorWord rotWord subWord change next more words _⊕_ filled kindOf byte0 byte1 header input versionBlock
 returns c = tested rows tt
