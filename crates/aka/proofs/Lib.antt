@@ -1,0 +1,11 @@
+mod Stepping
+mod Shown
+mod Written
+mod Closed
+mod Fitting
+mod LaidOut
+mod Challenged
+mod Received
+mod Traced
+mod ReadBack
+mod Resumed

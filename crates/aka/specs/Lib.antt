@@ -1,0 +1,13 @@
+pub mod Numbers
+pub mod Setup
+pub mod Tokens
+pub mod States
+pub mod Calls
+pub mod Opening
+pub mod Views
+pub mod Told
+pub mod Parts
+pub mod Grounds
+pub mod Messages
+pub mod Replies
+pub mod Laws

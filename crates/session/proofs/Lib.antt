@@ -1,0 +1,11 @@
+pub mod Refusing
+pub mod Counting
+pub mod Asked
+pub mod Steps
+pub mod Sessions
+pub mod Agreeing
+pub mod Rising
+pub mod Restoring
+pub mod Telling
+pub mod Every
+pub mod Example
