@@ -1,112 +1,130 @@
-use block::Refusal;
-use block::RefusalDisplay;
-use block::fill_block;
-use block::xor_blocks;
-use kernel::Kernel;
+ghost use mathlib.Core.Path.{_≡_};
+ghost use lib.ListN.{take};
+ghost use Rattle.std.specs.Of.Vec.{vec-items, vec-len};
+ghost use Rattle.std.specs.declared.result.Result.the-variants.{Ok, Err};
+ghost use Rattle.published.specs.Comparison.{Compared, more};
+ghost use Rattle.cases.specs.Functions.{sizeOf};
+ghost use Rattle.cases.specs.Opened.{valueOf};
+use super::fault::Fault;
+use super::fault::FaultFromAlloc;
+use super::fault::FaultFromRefusal;
+use super::fault::FaultFromRefused;
+use super::functions::Function;
+use super::label::Part;
+use super::opened::Opened;
+use super::sizes::CaseSizes;
+use super::traced::Trace;
+use super::traced::Traced;
 use milenage::cut;
-use milenage::derive_opc;
-use milenage::standard_name;
-use milenage::trace;
 use published::Tally;
-use rijndael::Rijndael;
-use rijndael::RijndaelKernel;
 use std::alloc::Global;
-use std::error::AnyError;
 
-// The sizes of the outputs of a case.
-#[derive(Clone, Copy)]
-pub struct CaseSizes {
-    pub res: usize,
-    pub ck: usize,
-    pub ik: usize,
-    pub mac: usize,
-    pub ak: usize,
-}
-
-// The inputs of a published test of the functions, and the MAC-S of the case at hand.
+// A published case of the functions: the sizes of their outputs, and its values in the order of print.
 #[derive(Drop)]
-pub struct FunctionTest {
-    pub key: Vec<u8>,
-    pub op: Vec<u8>,
-    pub rand: Vec<u8>,
-    pub carried: Vec<u8>,
-    pub sqn: Vec<u8>,
-    pub constants: Vec<u8>,
-    pub opc: [u8; 32],
-    pub mac_s: Vec<u8>,
+pub struct FunctionCase {
+    pub name: String,
+    pub sizes: CaseSizes,
+    values: Vec<FunctionValue>,
 }
 
-// One size of a case line, as RES_sz=32.
-fn size_of(word: &str, name: &str) -> Result<usize, AnyError> {
-    match word.split_once('=') {
-        Some((label, digits)) => {
-            if label == name {
-                Ok(digits.parse::<usize>()?)
-            } else {
-                Err("the sizes of a case are RES, CK, IK, MAC and AK, in this order".into())
+// A published value of a function.
+#[derive(Drop)]
+struct FunctionValue {
+    function: Function,
+    part: Part,
+    bytes: Vec<u8>,
+}
+
+impl FunctionCase {
+    // A case of which only the heading is read, as Case #1a: RES_sz=32, .. tells its sizes.
+    pub fn new(heap: Global, heading: &str) -> Result<FunctionCase, Fault> {
+        let Some((name, sizes)) = heading.split_once(": ") else {
+            return Err(Fault::Sizes);
+        };
+        Ok(FunctionCase {
+            name: String::from_str(heap, name)?,
+            sizes: CaseSizes::told(sizes)?,
+            values: Vec::new(heap),
+        })
+    }
+
+    // Takes a value. Those of f5** come after the MAC-S that it carries.
+    pub fn take(&mut self, function: Function, part: Part, bytes: Vec<u8>) -> Result<(), Fault> {
+        if matches!(function, Function::F5StarStar) && self.output(Function::F1Star).is_none() {
+            return Err(Fault::Order);
+        }
+        self.values
+            .push(FunctionValue {
+                function,
+                part,
+                bytes,
+            })?;
+        Ok(())
+    }
+
+    // The published output of a function.
+    pub fn output(&self, function: Function) -> Option<&[u8]> {
+        for value in &self.values {
+            if matches!(value.part, Part::Output) && value.function.index() == function.index() {
+                return Some(&value.bytes);
             }
         }
-        None => Err("a size of a case has a sign =".into()),
+        None
     }
-}
 
-// The sizes that a line such as Case #1a: RES_sz=32, CK_sz=32, .. tells, if it is a case's.
-pub fn sizes_of(line: &str) -> Result<Option<CaseSizes>, AnyError> {
-    let Some((_name, sizes)) = line.split_once(": ") else {
-        return Ok(None);
-    };
-    let mut words = sizes.split(", ");
-    let res = size_of(words.next().unwrap_or(""), "RES_sz")?;
-    let ck = size_of(words.next().unwrap_or(""), "CK_sz")?;
-    let ik = size_of(words.next().unwrap_or(""), "IK_sz")?;
-    let mac = size_of(words.next().unwrap_or(""), "MAC_sz")?;
-    let ak = size_of(words.next().unwrap_or(""), "AK_sz")?;
-    Ok(Some(CaseSizes {
-        res,
-        ck,
-        ik,
-        mac,
-        ak,
-    }))
-}
-
-// The index of a function, by its name in print.
-fn index_of(function: &str) -> Result<usize, AnyError> {
-    match function {
-        "f1*" => Ok(0),
-        "f1" => Ok(1),
-        "f2" => Ok(2),
-        "f3" => Ok(3),
-        "f4" => Ok(4),
-        "f5" => Ok(5),
-        "f5*" => Ok(6),
-        "f5**" => Ok(7),
-        _ => Err("a function is one of f1*, f1, f2, f3, f4, f5, f5*, f5**".into()),
+    // The MAC-S of the case, which f5** carries.
+    fn mac_s(&self) -> Result<&[u8], Fault> {
+        self.output(Function::F1Star).ok_or(Fault::Missing)
     }
-}
 
-impl CaseSizes {
-    // The size of a function's output.
-    fn output(self, index: usize) -> usize {
-        match index {
-            0 | 1 => self.mac,
-            2 => self.res,
-            3 => self.ck,
-            4 => self.ik,
-            _ => self.ak,
+    // The six blocks of a function.
+    pub fn trace(&self, opened: &Opened, function: Function) -> Result<Trace, Fault> {
+        opened.trace(function, self.sizes.of(function), self.mac_s()?)
+    }
+
+    // A function's output, of its answer block.
+    pub fn cut<'a>(&self, function: Function, answer: &'a [u8]) -> Result<&'a [u8], Fault>
+        ensures { λ r. ⌜ elim r [ Ok part ↦ now part ≡ take (sizeOf (now (self .entry) .sizes) function) (now (answer .entry)) | Err _ ↦ Unit ] ⌝ }
+    {
+        let part = cut(function.index(), self.sizes.of(function), answer)?;
+        Ok(part)
+    }
+
+    // Compares each published value of the case.
+    pub fn compare(&self, opened: &Opened) -> Result<Tally, Fault>
+        ensures { λ r. ⌜ elim r [ Ok tally ↦ tally .compared ≡ more (vec-len (now (self .entry) .values)) 0 | Err _ ↦ Unit ] ⌝ }
+    {
+        let mac_s = self.mac_s()?;
+        let mut tally = Tally::new();
+        for value in &self.values {
+            value.compare(opened, self.sizes, mac_s, &mut tally)?;
         }
+        Ok(tally)
     }
 }
 
-// A refusal of an exported call, as an error of the run.
-fn refused(e: Refusal) -> AnyError {
-    e.word().into()
-}
-
-fn copied(bytes: &[u8]) -> [u8; 128] {
-    let mut all = [0; 128];
-    if bytes.len() == 128 {
-        all.copy_from_slice(bytes);
+impl FunctionValue {
+    // Compares the value with what the exported calls make of it, at a case's sizes and its MAC-S.
+    fn compare(
+        &self,
+        opened: &Opened,
+        sizes: CaseSizes,
+        mac_s: &[u8],
+        tally: &mut Tally,
+    ) -> Result<bool, Fault>
+        ensures { λ r. ⌜ elim r [ Ok agrees ↦ Compared (now (tally .entry)) (valueOf (now (opened .entry)) sizes (now («mac_s» .entry)) (now (self .entry) .function) (now (self .entry) .part)) (vec-items (now (self .entry) .bytes)) agrees (now (tally .exit)) | Err _ ↦ Unit ] ⌝ }
+    {
+        let function = self.function;
+        let size = sizes.of(function);
+        let trace = opened.trace(function, size, mac_s)?;
+        let agrees = match self.part {
+            Part::Traced(place) => tally.compare(&trace.block(place), &self.bytes),
+            Part::MacS => tally.compare(mac_s, &self.bytes),
+            Part::Output => {
+                let answer = trace.block(Traced::Answer);
+                tally.compare(cut(function.index(), size, &answer)?, &self.bytes)
+            }
+        };
+        Ok(agrees)
     }
-    all
 }

@@ -1,9 +1,32 @@
-// Published cases, run through exported calls.
+// Published cases, read from their print and compared through exported calls.
+mod fault;
 mod function_case;
+mod function_test;
+mod functions;
+mod inputs;
 mod kernel_case;
+mod label;
+mod opc_block;
+mod opened;
+mod print;
+mod sizes;
+mod traced;
 
-pub use function_case::CaseSizes;
-pub use function_case::FunctionTest;
-pub use function_case::sizes_of;
+pub use fault::Fault;
+pub use fault::FaultDisplay;
+pub use fault::FaultError;
+pub use fault::Misread;
+pub use fault::MisreadDisplay;
+pub use fault::MisreadError;
+pub use function_case::FunctionCase;
+pub use function_test::FunctionTest;
+pub use function_test::function_tests_of;
+pub use functions::Function;
 pub use kernel_case::KernelCase;
 pub use kernel_case::KernelRun;
+pub use kernel_case::kernel_cases_of;
+pub use opc_block::OpcBlock;
+pub use opened::Opened;
+pub use sizes::CaseSizes;
+pub use traced::Trace;
+pub use traced::Traced;

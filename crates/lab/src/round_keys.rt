@@ -1,4 +1,4 @@
-use super::kernel_cases::verdict;
+use super::verdict;
 use block::Refusal;
 use block::RefusalDisplay;
 use published::Hex;

@@ -15,3 +15,8 @@ pub record Compared (before : Tally) (computed published : List ℕ) (answer : B
   pub agrees : answer ≡ sameBytes computed published
   pub compared : after .compared ≡ more 1 (before .compared)
   pub differing : after .differing ≡ more (cond (sameBytes computed published) 0 1) (before .differing)
+
+-- Two tallies as one: the counts of a part are added.
+pub record Joined (before part after : Tally) : Type 0 where
+  pub compared : after .compared ≡ more (part .compared) (before .compared)
+  pub differing : after .differing ≡ more (part .differing) (before .differing)

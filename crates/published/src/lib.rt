@@ -7,6 +7,7 @@ pub use compare::Tally;
 pub use hex::Hex;
 pub use hex::HexDisplay;
 pub use hex::Unread;
+pub use hex::UnreadDebug;
 pub use hex::UnreadDisplay;
 pub use hex::UnreadError;
 pub use hex::UnreadFromAlloc;

@@ -1,4 +1,4 @@
-ghost use Rattle.published.specs.Comparison.{Compared};
+ghost use Rattle.published.specs.Comparison.{Compared, Joined};
 ghost use mathlib.Core.Path.{_≡_};
 use super::Tally;
 use super::same;
@@ -23,5 +23,13 @@ impl Tally {
         let difference = if agrees { 0 } else { 1 };
         self.differing = self.differing.saturating_add(difference);
         agrees
+    }
+
+    // Counts what another tally has counted too.
+    pub fn join(&mut self, part: Tally)
+        ensures { λ _. ⌜ Joined (now (self .entry)) part (now (self .exit)) ⌝ }
+    {
+        self.compared = self.compared.saturating_add(part.compared);
+        self.differing = self.differing.saturating_add(part.differing);
     }
 }
