@@ -10,7 +10,7 @@ use Rattle.block.specs.Bytes.{over}
 use Rattle.aka.specs.Numbers.{nextNumber}
 use Rattle.aka.specs.Setup.{Setup, f2}
 use Rattle.aka.specs.Tokens.{vector}
-use Rattle.aka.specs.States.{Challenge, Network, Shows, issued, refused}
+use Rattle.aka.specs.States.{Network, Shows, issued, refused}
 use Rattle.aka.specs.Calls.{doesChallenge}
 use Rattle.aka.specs.Grounds.{challengeGrounds, challengeGround}
 use Rattle.aka.proofs.Shown.{no-ground, by-ground, shows-as, shows-refused}

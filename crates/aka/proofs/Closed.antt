@@ -3,7 +3,6 @@ use mathlib.Core.Path.{_≡_, refl, sym, ap, subst, _∙_}
 use mathlib.Core.Bool.{Bool, true, false, not, cond}
 use mathlib.Core.List.{List, [], _∷_}
 use Prim.Native.Nat.{ℕ}
-use lib.Dec.{eqb}
 use lib.ListN.{take}
 use Rattle.std.specs.declared.option.Option.{Option}
 use Rattle.std.specs.declared.option.Option.the-variants.{Some, None}
@@ -12,7 +11,7 @@ use Rattle.aka.specs.declared.sizes.Sizes.{Sizes}
 use Rattle.std.specs.shelf.Text.{sameBytes}
 use Rattle.block.specs.declared.refusal.Refusal.the-variants.{Stale}
 use Rattle.block.specs.Refusals.{_when_}
-use Rattle.aka.specs.States.{Challenge, Network, Shows, stale, spent, pendingRand, pendingXres, lapsed, confirmed, refused}
+use Rattle.aka.specs.States.{Network, Shows, stale, spent, pendingRand, pendingXres, lapsed, confirmed, refused}
 use Rattle.aka.specs.Calls.{doesConfirm, doesLapse}
 use Rattle.aka.specs.Views.{openOf}
 use Rattle.aka.proofs.Shown.{no-ground, by-ground, shows-as, shows-refused}

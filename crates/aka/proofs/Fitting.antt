@@ -1,11 +1,10 @@
 -- What an end asks is never refused: the sizes that it was opened with fit.
-use mathlib.Core.Path.{_≡_, refl, sym, ap, _∙_}
+use mathlib.Core.Path.{_≡_, ap, _∙_}
 use mathlib.Core.List.{List}
 use Prim.Native.Nat.{ℕ, zero, suc, _<_, _≤_}
 use native.Mathlib.Omega.{arith}
 use lib.ListN.{length, take}
 use Rattle.std.proofs.shelf.Ways.{tells}
-use Rattle.block.specs.Bytes.{_⊕_}
 use Rattle.milenage.specs.declared.question.Question.{Question as Held}
 use Rattle.milenage.specs.Functions.{kindOf, badSize, badCarried}
 use Rattle.milenage.specs.Grounds.{questionGround}

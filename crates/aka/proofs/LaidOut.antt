@@ -1,7 +1,7 @@
 -- The layouts, from the parts that are cut from their blocks.
-use mathlib.Core.Path.{_≡_, refl, sym, ap, ap₂, subst, _∙_}
+use mathlib.Core.Path.{_≡_, sym, ap, ap₂, subst, _∙_}
 use mathlib.Core.Bool.{Bool}
-use mathlib.Core.List.{List, [], _∷_, _++_}
+use mathlib.Core.List.{List, _++_}
 use Prim.Native.Nat.{ℕ}
 use lib.ListN.{length, take}
 use Rattle.std.specs.declared.option.Option.{Option}
@@ -10,9 +10,9 @@ use Rattle.block.specs.Bytes.{_⊕_}
 use Rattle.block.proofs.ByteLaws.{take-⊕}
 use Rattle.aka.specs.declared.core.Keys.{Keys}
 use Rattle.aka.specs.declared.core.Parts.{Parts}
-use Rattle.aka.specs.Setup.{Setup, f1, f1*, f2, f3, f4, f5, akStar, macS}
+use Rattle.aka.specs.Setup.{Setup, f1, f5, akStar, macS}
 use Rattle.aka.specs.Tokens.{autn, auts, answers, vector, autnMasked, autnAmf, autnMac, autnNumber, autsMasked, autsMac, autsNumber}
-use Rattle.aka.specs.Parts.{KeysOf, PartsOf, Told, TellsAutn, TellsAuts}
+use Rattle.aka.specs.Parts.{KeysOf, PartsOf, TellsNumber, TellsAutn, TellsAuts}
 
 pub answers-are : (s : Setup) (rand : List ℕ) (k : Keys) → KeysOf s rand k
     → (take (s .sizes .res) (k .res) ++ take (s .sizes .ck) (k .ck)) ++ take (s .sizes .ik) (k .ik) ≡ answers s rand
@@ -29,16 +29,16 @@ pub masked-is : (n : ℕ) (x k v m : List ℕ) → m ≡ x ⊕ k → take n k �
 masked-is n x k v m e h = ap (λ (t : List ℕ). take n t) e ∙ take-⊕ n x k ∙ ap (λ (t : List ℕ). take n x ⊕ t) h
 
 -- what a token tells, at equal MACs and numbers
-pub told-as : (a b : Bool) (k : ℕ) (x y : List ℕ) (r : Option ℕ) → a ≡ b → x ≡ y → Told a k x r → Told b k y r
+pub told-as : (a b : Bool) (k : ℕ) (x y : List ℕ) (r : Option ℕ) → a ≡ b → x ≡ y → TellsNumber a k x r → TellsNumber b k y r
 told-as a b k x y r e f h =
-    subst (λ (c : Bool). Told c k y r) e (subst (λ (z : List ℕ). Told a k z r) f h)
+    subst (λ (c : Bool). TellsNumber c k y r) e (subst (λ (z : List ℕ). TellsNumber a k z r) f h)
 
 -- the check of an AUTN, from its parts
 pub autn-told : (s : Setup) (rand token amf macA masked ak sqn mac : List ℕ) (r : Option ℕ)
     → s .sizes .ak ≡ s .sizes .sqn → masked ≡ autnMasked (s .sizes) token → amf ≡ autnAmf (s .sizes) token → macA ≡ autnMac (s .sizes) token → length masked ≡ s .sizes .sqn
     → take (s .sizes .sqn) ak ≡ f5 s rand → take (length masked) sqn ≡ masked ⊕ take (length masked) ak
     → take (s .sizes .mac) mac ≡ f1 s rand amf (take (s .sizes .sqn) sqn)
-    → Told (sameBytes (take (s .sizes .mac) mac) macA) (s .sizes .sqn) (take (s .sizes .sqn) sqn) r
+    → TellsNumber (sameBytes (take (s .sizes .mac) mac) macA) (s .sizes .sqn) (take (s .sizes .sqn) sqn) r
     → TellsAutn s rand token r
 unfolding autnNumber
 autn-told s rand token amf macA masked ak sqn mac r a em ef ea l k u m h =
@@ -52,32 +52,32 @@ autn-told s rand token amf macA masked ak sqn mac r a em ef ea l k u m h =
 
 -- an AUTS, from its parts
 pub auts-is : (s : Setup) (rand sqn b mac ak masked : List ℕ) → take (s .sizes .sqn) b ≡ sqn
-    → take (s .sizes .mac) mac ≡ f1* s rand (0 ∷ 0 ∷ []) (take (s .sizes .sqn) b)
+    → take (s .sizes .mac) mac ≡ macS s rand (take (s .sizes .sqn) b)
     → take (s .sizes .sqn) ak ≡ akStar s rand (take (s .sizes .mac) mac) → masked ≡ b ⊕ ak
     → take (s .sizes .sqn) masked ++ take (s .sizes .mac) mac ≡ auts s rand sqn
-unfolding auts macS
+unfolding auts
 auts-is s rand sqn b mac ak masked e m k x =
     let n : ℕ = s .sizes .sqn in
-    let d : take (s .sizes .mac) mac ≡ f1* s rand (0 ∷ 0 ∷ []) sqn = m ∙ ap (λ (t : List ℕ). f1* s rand (0 ∷ 0 ∷ []) t) e in
-    let j : take n ak ≡ akStar s rand (f1* s rand (0 ∷ 0 ∷ []) sqn) = k ∙ ap (akStar s rand) d in
-    let y : take n masked ≡ sqn ⊕ akStar s rand (f1* s rand (0 ∷ 0 ∷ []) sqn) = masked-is n b ak _ masked x j ∙ ap (λ (t : List ℕ). t ⊕ akStar s rand (f1* s rand (0 ∷ 0 ∷ []) sqn)) e in
+    let d : take (s .sizes .mac) mac ≡ macS s rand sqn = m ∙ ap (λ (t : List ℕ). macS s rand t) e in
+    let j : take n ak ≡ akStar s rand (macS s rand sqn) = k ∙ ap (akStar s rand) d in
+    let y : take n masked ≡ sqn ⊕ akStar s rand (macS s rand sqn) = masked-is n b ak _ masked x j ∙ ap (λ (t : List ℕ). t ⊕ akStar s rand (macS s rand sqn)) e in
     ap₂ _++_ y d
 
 -- the check of an AUTS, from its parts
 pub auts-told : (s : Setup) (rand token mac masked ak sqn block : List ℕ) (r : Option ℕ)
     → masked ≡ autsMasked (s .sizes) token → mac ≡ autsMac (s .sizes) token → length masked ≡ s .sizes .sqn
     → take (s .sizes .sqn) ak ≡ akStar s rand mac → take (length masked) sqn ≡ masked ⊕ take (length masked) ak
-    → take (s .sizes .mac) block ≡ f1* s rand (0 ∷ 0 ∷ []) (take (s .sizes .sqn) sqn)
-    → Told (sameBytes (take (s .sizes .mac) block) mac) (s .sizes .sqn) (take (s .sizes .sqn) sqn) r
+    → take (s .sizes .mac) block ≡ macS s rand (take (s .sizes .sqn) sqn)
+    → TellsNumber (sameBytes (take (s .sizes .mac) block) mac) (s .sizes .sqn) (take (s .sizes .sqn) sqn) r
     → TellsAuts s rand token r
-unfolding autsNumber macS
+unfolding autsNumber
 auts-told s rand token mac masked ak sqn block r em ea l k u m h =
     let n : ℕ = s .sizes .sqn in
     let v : List ℕ = autsMasked (s .sizes) token ⊕ akStar s rand (autsMac (s .sizes) token) in
     let j : take n ak ≡ akStar s rand (autsMac (s .sizes) token) = k ∙ ap (akStar s rand) ea in
     let x : take n sqn ≡ v =
     ap (λ (i : ℕ). take i sqn) (sym l) ∙ u ∙ ap (λ (i : ℕ). masked ⊕ take i ak) l ∙ ap (λ (t : List ℕ). masked ⊕ t) j ∙ ap (λ (t : List ℕ). t ⊕ akStar s rand (autsMac (s .sizes) token)) em in
-    let y : sameBytes (take (s .sizes .mac) block) mac ≡ sameBytes (f1* s rand (0 ∷ 0 ∷ []) v) (autsMac (s .sizes) token) =
-    ap (λ (t : List ℕ). sameBytes t mac) (m ∙ ap (λ (t : List ℕ). f1* s rand (0 ∷ 0 ∷ []) t) x)
-    ∙ ap (λ (t : List ℕ). sameBytes (f1* s rand (0 ∷ 0 ∷ []) v) t) ea in
+    let y : sameBytes (take (s .sizes .mac) block) mac ≡ sameBytes (macS s rand v) (autsMac (s .sizes) token) =
+    ap (λ (t : List ℕ). sameBytes t mac) (m ∙ ap (λ (t : List ℕ). macS s rand t) x)
+    ∙ ap (λ (t : List ℕ). sameBytes (macS s rand v) t) ea in
     told-as _ _ n (take n sqn) v r y x h

@@ -1,11 +1,12 @@
-mod Stepping
-mod Shown
-mod Written
-mod Closed
-mod Fitting
-mod LaidOut
-mod Challenged
-mod Received
-mod Traced
-mod ReadBack
-mod Resumed
+pub mod Stepping
+pub mod Shown
+pub mod Written
+pub mod Closed
+pub mod Fitting
+pub mod LaidOut
+pub mod Challenged
+pub mod Received
+pub mod Traced
+pub mod ReadBack
+pub mod Resumed
+pub mod Pieces

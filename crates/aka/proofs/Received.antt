@@ -1,7 +1,7 @@
 -- What a received challenge shows.
-use mathlib.Core.Path.{_≡_, refl, sym, ap, subst, _∙_}
+use mathlib.Core.Path.{_≡_, refl, sym, ap, _∙_}
 use mathlib.Core.Bool.{Bool, true, false, not, cond, _||_}
-use mathlib.Core.List.{List, [], _∷_}
+use mathlib.Core.List.{List}
 use Prim.Native.Nat.{ℕ, _<_}
 use lib.Dec.{eqb, ltb, lit<}
 use lib.ListN.{length}
@@ -9,12 +9,12 @@ use Rattle.std.proofs.shelf.Tests.{cond-true, cond-false}
 use Rattle.block.specs.declared.refusal.Refusal.{Refusal}
 use Rattle.block.specs.declared.refusal.Refusal.the-variants.{Mac}
 use Rattle.block.specs.Bytes.{over}
-use Rattle.block.specs.Refusals.{number, Ground, _when_, first}
+use Rattle.block.specs.Refusals.{number}
 use Rattle.milenage.proofs.Refused.{number-above-0}
 use Rattle.aka.specs.Numbers.{exceeds}
-use Rattle.aka.specs.Setup.{Setup, f1}
-use Rattle.aka.specs.Tokens.{auts, answers, autnAmf, autnMac, autnNumber, answersSize, autsSize, autnSize}
-use Rattle.aka.specs.States.{Done, Shows, accepted, refused}
+use Rattle.aka.specs.Setup.{Setup}
+use Rattle.aka.specs.Tokens.{auts, answers, autnNumber, answersSize, autsSize, autnSize}
+use Rattle.aka.specs.States.{Shows, accepted, refused}
 use Rattle.aka.specs.Calls.{doesReceive, shortScratch}
 use Rattle.aka.specs.Parts.{rightMacA}
 use Rattle.aka.specs.Grounds.{receiveGrounds, receiveGround}

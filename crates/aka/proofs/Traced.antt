@@ -1,5 +1,5 @@
 -- What a trace shows.
-use mathlib.Core.Path.{_≡_, refl}
+use mathlib.Core.Path.{refl}
 use mathlib.Core.Bool.{_||_}
 use mathlib.Core.List.{List, [], _∷_}
 use Prim.Native.Nat.{ℕ}
@@ -8,11 +8,11 @@ use lib.ListN.{length}
 use Rattle.std.specs.declared.result.Result.{Result}
 use Rattle.std.specs.declared.result.Result.the-variants.{Ok, Err}
 use Rattle.block.specs.declared.refusal.Refusal.{Refusal}
-use Rattle.block.specs.Refusals.{number, _when_}
+use Rattle.block.specs.Refusals.{_when_}
 use Rattle.milenage.specs.Calls.{Traces}
 use Rattle.milenage.specs.Grounds.{questionGrounds}
 use Rattle.aka.specs.Setup.{Setup, keyed}
-use Rattle.aka.specs.States.{Shows, traced, refused}
+use Rattle.aka.specs.States.{Shows}
 use Rattle.aka.specs.Calls.{doesTrace, shortScratch}
 use Rattle.aka.specs.Told.{toldTrace}
 use Rattle.aka.proofs.Shown.{no-ground, by-ground, shows-as}

@@ -1,10 +1,10 @@
 -- What lies where in buffers and blocks.
-use mathlib.Core.Path.{_≡_, refl, sym, _∙_, ap}
-use mathlib.Core.List.{List, [], _∷_, _++_, append-assoc}
-use Prim.Native.Nat.{ℕ, _+_, _-_, _<_, _≤_}
+use mathlib.Core.Path.{_≡_, refl, _∙_, ap}
+use mathlib.Core.List.{List, [], _++_, append-assoc}
+use Prim.Native.Nat.{ℕ, _+_, _-_}
 use native.Mathlib.Omega.{arith}
 use lib.ListN.{length, take, drop}
-use Rattle.std.proofs.shelf.Lists.{take-at, drop-at, drop-drop, length-append}
+use Rattle.std.proofs.shelf.Lists.{take-at, length-append}
 use Rattle.block.specs.Bytes.{over}
 use Rattle.milenage.specs.Steps.{Appends}
 

@@ -35,9 +35,9 @@ pub record PartsOf (s : Setup) (rand amf sqn : List ℕ) (p : Parts) : Type 0 wh
   pub mac : take (s .sizes .mac) (p .mac) ≡ f1 s rand amf sqn
 
 -- the number that a token tells in k bytes if its MAC is right, or none
-abbrev pub Told : Bool → ℕ → List ℕ → Option ℕ → Type 0
-Told right k sqn (Some n) = (right ≡ true) × (bytesOf k n ≡ sqn) × (n < 256 ^ k)
-Told right k sqn None = right ≡ false
+abbrev pub TellsNumber : Bool → ℕ → List ℕ → Option ℕ → Type 0
+TellsNumber right k sqn (Some n) = (right ≡ true) × (bytesOf k n ≡ sqn) × (n < 256 ^ k)
+TellsNumber right k sqn None = right ≡ false
 
 -- whether the MAC-A of an AUTN, and the MAC-S of an AUTS, is right
 abbrev pub rightMacA : Setup → List ℕ → List ℕ → Bool
@@ -47,7 +47,7 @@ abbrev pub rightMacS : Setup → List ℕ → List ℕ → Bool
 rightMacS s rand token = sameBytes (macS s rand (autsNumber s rand token)) (autsMac (s .sizes) token)
 
 abbrev pub TellsAutn : Setup → List ℕ → List ℕ → Option ℕ → Type 0
-TellsAutn s rand token = Told (rightMacA s rand token) (s .sizes .sqn) (autnNumber s rand token)
+TellsAutn s rand token = TellsNumber (rightMacA s rand token) (s .sizes .sqn) (autnNumber s rand token)
 
 abbrev pub TellsAuts : Setup → List ℕ → List ℕ → Option ℕ → Type 0
-TellsAuts s rand token = Told (rightMacS s rand token) (s .sizes .sqn) (autsNumber s rand token)
+TellsAuts s rand token = TellsNumber (rightMacS s rand token) (s .sizes .sqn) (autsNumber s rand token)

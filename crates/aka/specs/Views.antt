@@ -6,9 +6,7 @@ use Rattle.std.specs.declared.option.Option.{Option}
 use Rattle.std.specs.declared.option.Option.the-variants.{Some, None}
 use Rattle.block.specs.Numbers.{bytesOf}
 use Rattle.aka.specs.declared.sizes.Sizes.{Sizes}
-use Rattle.aka.specs.declared.sizes.Admitted.{Admitted}
 use Rattle.aka.specs.declared.core.Core.{Core}
-use Rattle.aka.specs.declared.network.Book.{Book}
 use Rattle.aka.specs.declared.network.NetworkEnd.{NetworkEnd}
 use Rattle.aka.specs.declared.card.CardEnd.{CardEnd}
 use Rattle.aka.specs.Setup.{Setup}

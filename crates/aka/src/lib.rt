@@ -17,6 +17,7 @@ pub use message::ChallengeToken;
 pub use message::Message;
 pub use message::ResyncToken;
 pub use network::NetworkEnd;
+pub use network::Resynced;
 pub use sizes::ResyncMask;
 pub use sizes::Sizes;
 pub use ticket::Ticket;

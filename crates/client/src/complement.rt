@@ -1,5 +1,4 @@
 ghost use Rattle.client.specs.Complement.{turned};
-
 use block::xor_blocks;
 use kernel::Kernel;
 

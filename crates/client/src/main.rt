@@ -16,7 +16,9 @@ use published::HexDisplay;
 use std::error::AnyError;
 
 const OPC: [u8; 32] = [0x5a; 32];
+
 const RAND: [u8; 16] = [0x3c; 16];
+
 const AMF: [u8; 2] = [0x80, 0];
 
 const SIZES: Sizes = Sizes {
@@ -55,7 +57,13 @@ fn answer(card: &mut CardEnd<Complement>, vector: [u8; 68]) -> Result<[u8; 4], A
     let mut answer = [0; 36];
     let mut auts = [0; 14];
     let mut scratch = [0; 96];
-    let outcome = card.receive(&vector[0..16], &vector[52..68], &mut answer, &mut auts, &mut scratch);
+    let outcome = card.receive(
+        &vector[0..16],
+        &vector[52..68],
+        &mut answer,
+        &mut auts,
+        &mut scratch,
+    );
     match card.reply(outcome, &answer, &auts) {
         Ok(part) => {
             let mut res = [0; 4];

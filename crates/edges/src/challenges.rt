@@ -1,7 +1,7 @@
-use super::opening::kernel;
 use super::opening::SMALLEST;
-use super::report::part;
+use super::opening::kernel;
 use super::report::Report;
+use super::report::part;
 use aka::NetworkEnd;
 use aka::Ticket;
 use block::Refusal;
@@ -21,25 +21,141 @@ struct ChallengeCase {
 }
 
 const CHALLENGES: [ChallengeCase; 14] = [
-    ChallengeCase { case: "all sizes smallest, 68 bytes", spent: false, rand: 16, amf: 2, out: 68, scratch: 96, wanted: 0 },
-    ChallengeCase { case: "everything empty", spent: true, rand: 0, amf: 0, out: 0, scratch: 0, wanted: 9 },
-    ChallengeCase { case: "RAND 15", spent: false, rand: 15, amf: 2, out: 68, scratch: 96, wanted: 9 },
-    ChallengeCase { case: "RAND 17 and AMF 1", spent: false, rand: 17, amf: 1, out: 68, scratch: 96, wanted: 9 },
-    ChallengeCase { case: "RAND 15 and output 67", spent: false, rand: 15, amf: 2, out: 67, scratch: 96, wanted: 9 },
-    ChallengeCase { case: "RAND 15 and number all ff", spent: true, rand: 15, amf: 2, out: 68, scratch: 96, wanted: 9 },
-    ChallengeCase { case: "AMF 1", spent: false, rand: 16, amf: 1, out: 68, scratch: 96, wanted: 10 },
-    ChallengeCase { case: "AMF 3 and scratch 95", spent: false, rand: 16, amf: 3, out: 68, scratch: 95, wanted: 10 },
-    ChallengeCase { case: "AMF 0 and number all ff", spent: true, rand: 16, amf: 0, out: 68, scratch: 96, wanted: 10 },
-    ChallengeCase { case: "output 67", spent: false, rand: 16, amf: 2, out: 67, scratch: 96, wanted: 12 },
-    ChallengeCase { case: "scratch 95", spent: false, rand: 16, amf: 2, out: 68, scratch: 95, wanted: 12 },
-    ChallengeCase { case: "output 67 and number all ff", spent: true, rand: 16, amf: 2, out: 67, scratch: 96, wanted: 12 },
-    ChallengeCase { case: "number all ff", spent: true, rand: 16, amf: 2, out: 68, scratch: 96, wanted: 13 },
-    ChallengeCase { case: "number one below all ff", spent: false, rand: 16, amf: 2, out: 96, scratch: 96, wanted: 0 },
+    ChallengeCase {
+        case: "all sizes smallest, 68 bytes",
+        spent: false,
+        rand: 16,
+        amf: 2,
+        out: 68,
+        scratch: 96,
+        wanted: 0,
+    },
+    ChallengeCase {
+        case: "everything empty",
+        spent: true,
+        rand: 0,
+        amf: 0,
+        out: 0,
+        scratch: 0,
+        wanted: 9,
+    },
+    ChallengeCase {
+        case: "RAND 15",
+        spent: false,
+        rand: 15,
+        amf: 2,
+        out: 68,
+        scratch: 96,
+        wanted: 9,
+    },
+    ChallengeCase {
+        case: "RAND 17 and AMF 1",
+        spent: false,
+        rand: 17,
+        amf: 1,
+        out: 68,
+        scratch: 96,
+        wanted: 9,
+    },
+    ChallengeCase {
+        case: "RAND 15 and output 67",
+        spent: false,
+        rand: 15,
+        amf: 2,
+        out: 67,
+        scratch: 96,
+        wanted: 9,
+    },
+    ChallengeCase {
+        case: "RAND 15 and number all ff",
+        spent: true,
+        rand: 15,
+        amf: 2,
+        out: 68,
+        scratch: 96,
+        wanted: 9,
+    },
+    ChallengeCase {
+        case: "AMF 1",
+        spent: false,
+        rand: 16,
+        amf: 1,
+        out: 68,
+        scratch: 96,
+        wanted: 10,
+    },
+    ChallengeCase {
+        case: "AMF 3 and scratch 95",
+        spent: false,
+        rand: 16,
+        amf: 3,
+        out: 68,
+        scratch: 95,
+        wanted: 10,
+    },
+    ChallengeCase {
+        case: "AMF 0 and number all ff",
+        spent: true,
+        rand: 16,
+        amf: 0,
+        out: 68,
+        scratch: 96,
+        wanted: 10,
+    },
+    ChallengeCase {
+        case: "output 67",
+        spent: false,
+        rand: 16,
+        amf: 2,
+        out: 67,
+        scratch: 96,
+        wanted: 12,
+    },
+    ChallengeCase {
+        case: "scratch 95",
+        spent: false,
+        rand: 16,
+        amf: 2,
+        out: 68,
+        scratch: 95,
+        wanted: 12,
+    },
+    ChallengeCase {
+        case: "output 67 and number all ff",
+        spent: true,
+        rand: 16,
+        amf: 2,
+        out: 67,
+        scratch: 96,
+        wanted: 12,
+    },
+    ChallengeCase {
+        case: "number all ff",
+        spent: true,
+        rand: 16,
+        amf: 2,
+        out: 68,
+        scratch: 96,
+        wanted: 13,
+    },
+    ChallengeCase {
+        case: "number one below all ff",
+        spent: false,
+        rand: 16,
+        amf: 2,
+        out: 96,
+        scratch: 96,
+        wanted: 0,
+    },
 ];
 
 // A network end whose number is all ff, or one below.
 pub fn network(spent: bool) -> Result<NetworkEnd<Rijndael>, AnyError> {
-    let number = if spent { [255; 6] } else { [255, 255, 255, 255, 255, 254] };
+    let number = if spent {
+        [255; 6]
+    } else {
+        [255, 255, 255, 255, 255, 254]
+    };
     match NetworkEnd::open(kernel()?, part(32), part(128), SMALLEST, &number) {
         Ok(end) => Ok(end),
         Err(_) => Err("the network end was refused".into()),
@@ -65,7 +181,12 @@ pub fn check(rt: &LibcRuntime, report: &mut Report) -> Result<(), AnyError> {
         let mut scratch = [9; 96];
         let n = c.out.min(96);
         let m = c.scratch.min(96);
-        let outcome = end.challenge(part(c.rand), part(c.amf), &mut out[0..n], &mut scratch[0..m]);
+        let outcome = end.challenge(
+            part(c.rand),
+            part(c.amf),
+            &mut out[0..n],
+            &mut scratch[0..m],
+        );
         let got = settled(&mut end, outcome);
         report.expect(rt, "challenge", c.case, c.wanted, got)?;
     }
@@ -102,7 +223,19 @@ fn stale(rt: &LibcRuntime, report: &mut Report) -> Result<(), AnyError> {
         Err(e) => e.number(),
     };
     let three = confirmed(&mut end, third);
-    report.expect(rt, "confirm", "a ticket whose challenge was replaced", 14, one)?;
-    report.expect(rt, "lapse", "a ticket whose challenge was replaced", 14, two)?;
+    report.expect(
+        rt,
+        "confirm",
+        "a ticket whose challenge was replaced",
+        14,
+        one,
+    )?;
+    report.expect(
+        rt,
+        "lapse",
+        "a ticket whose challenge was replaced",
+        14,
+        two,
+    )?;
     report.expect(rt, "confirm", "the open ticket, an empty RES", 0, three)
 }

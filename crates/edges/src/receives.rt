@@ -1,9 +1,9 @@
-use super::opening::kernel;
 use super::opening::SMALLEST;
+use super::opening::kernel;
+use super::report::Report;
 use super::report::made;
 use super::report::number_of;
 use super::report::part;
-use super::report::Report;
 use aka::CardEnd;
 use aka::NetworkEnd;
 use rijndael::Rijndael;
@@ -27,23 +27,193 @@ struct ReceiveCase {
 }
 
 const RECEIVES: [ReceiveCase; 17] = [
-    ReceiveCase { case: "a challenge", rand: 16, autn: 16, answer: 36, auts: 14, scratch: 96, spoiled: false, seen: false, wanted: 0 },
-    ReceiveCase { case: "the same AUTN again", rand: 16, autn: 16, answer: 36, auts: 14, scratch: 96, spoiled: false, seen: true, wanted: 17 },
-    ReceiveCase { case: "everything empty", rand: 0, autn: 0, answer: 0, auts: 0, scratch: 0, spoiled: false, seen: false, wanted: 9 },
-    ReceiveCase { case: "RAND 15", rand: 15, autn: 16, answer: 36, auts: 14, scratch: 96, spoiled: false, seen: false, wanted: 9 },
-    ReceiveCase { case: "RAND 15 and answer 35", rand: 15, autn: 16, answer: 35, auts: 14, scratch: 96, spoiled: false, seen: false, wanted: 9 },
-    ReceiveCase { case: "RAND 15 and AUTN 15", rand: 15, autn: 15, answer: 36, auts: 14, scratch: 96, spoiled: false, seen: false, wanted: 9 },
-    ReceiveCase { case: "answer 35", rand: 16, autn: 16, answer: 35, auts: 14, scratch: 96, spoiled: false, seen: false, wanted: 12 },
-    ReceiveCase { case: "AUTS buffer 13", rand: 16, autn: 16, answer: 36, auts: 13, scratch: 96, spoiled: false, seen: false, wanted: 12 },
-    ReceiveCase { case: "scratch 95", rand: 16, autn: 16, answer: 36, auts: 14, scratch: 95, spoiled: false, seen: false, wanted: 12 },
-    ReceiveCase { case: "answer 0 and AUTN 15", rand: 16, autn: 15, answer: 0, auts: 14, scratch: 96, spoiled: false, seen: false, wanted: 12 },
-    ReceiveCase { case: "AUTS buffer 0 and MAC", rand: 16, autn: 16, answer: 36, auts: 0, scratch: 96, spoiled: true, seen: false, wanted: 12 },
-    ReceiveCase { case: "answer 35 and behind", rand: 16, autn: 16, answer: 35, auts: 14, scratch: 96, spoiled: false, seen: true, wanted: 12 },
-    ReceiveCase { case: "AUTN 15", rand: 16, autn: 15, answer: 36, auts: 14, scratch: 96, spoiled: false, seen: false, wanted: 15 },
-    ReceiveCase { case: "AUTN 0", rand: 16, autn: 0, answer: 36, auts: 14, scratch: 96, spoiled: false, seen: false, wanted: 15 },
-    ReceiveCase { case: "AUTN 15 and behind", rand: 16, autn: 15, answer: 36, auts: 14, scratch: 96, spoiled: false, seen: true, wanted: 15 },
-    ReceiveCase { case: "MAC", rand: 16, autn: 16, answer: 36, auts: 14, scratch: 96, spoiled: true, seen: false, wanted: 16 },
-    ReceiveCase { case: "MAC and behind", rand: 16, autn: 16, answer: 36, auts: 14, scratch: 96, spoiled: true, seen: true, wanted: 16 },
+    ReceiveCase {
+        case: "a challenge",
+        rand: 16,
+        autn: 16,
+        answer: 36,
+        auts: 14,
+        scratch: 96,
+        spoiled: false,
+        seen: false,
+        wanted: 0,
+    },
+    ReceiveCase {
+        case: "the same AUTN again",
+        rand: 16,
+        autn: 16,
+        answer: 36,
+        auts: 14,
+        scratch: 96,
+        spoiled: false,
+        seen: true,
+        wanted: 17,
+    },
+    ReceiveCase {
+        case: "everything empty",
+        rand: 0,
+        autn: 0,
+        answer: 0,
+        auts: 0,
+        scratch: 0,
+        spoiled: false,
+        seen: false,
+        wanted: 9,
+    },
+    ReceiveCase {
+        case: "RAND 15",
+        rand: 15,
+        autn: 16,
+        answer: 36,
+        auts: 14,
+        scratch: 96,
+        spoiled: false,
+        seen: false,
+        wanted: 9,
+    },
+    ReceiveCase {
+        case: "RAND 15 and answer 35",
+        rand: 15,
+        autn: 16,
+        answer: 35,
+        auts: 14,
+        scratch: 96,
+        spoiled: false,
+        seen: false,
+        wanted: 9,
+    },
+    ReceiveCase {
+        case: "RAND 15 and AUTN 15",
+        rand: 15,
+        autn: 15,
+        answer: 36,
+        auts: 14,
+        scratch: 96,
+        spoiled: false,
+        seen: false,
+        wanted: 9,
+    },
+    ReceiveCase {
+        case: "answer 35",
+        rand: 16,
+        autn: 16,
+        answer: 35,
+        auts: 14,
+        scratch: 96,
+        spoiled: false,
+        seen: false,
+        wanted: 12,
+    },
+    ReceiveCase {
+        case: "AUTS buffer 13",
+        rand: 16,
+        autn: 16,
+        answer: 36,
+        auts: 13,
+        scratch: 96,
+        spoiled: false,
+        seen: false,
+        wanted: 12,
+    },
+    ReceiveCase {
+        case: "scratch 95",
+        rand: 16,
+        autn: 16,
+        answer: 36,
+        auts: 14,
+        scratch: 95,
+        spoiled: false,
+        seen: false,
+        wanted: 12,
+    },
+    ReceiveCase {
+        case: "answer 0 and AUTN 15",
+        rand: 16,
+        autn: 15,
+        answer: 0,
+        auts: 14,
+        scratch: 96,
+        spoiled: false,
+        seen: false,
+        wanted: 12,
+    },
+    ReceiveCase {
+        case: "AUTS buffer 0 and MAC",
+        rand: 16,
+        autn: 16,
+        answer: 36,
+        auts: 0,
+        scratch: 96,
+        spoiled: true,
+        seen: false,
+        wanted: 12,
+    },
+    ReceiveCase {
+        case: "answer 35 and behind",
+        rand: 16,
+        autn: 16,
+        answer: 35,
+        auts: 14,
+        scratch: 96,
+        spoiled: false,
+        seen: true,
+        wanted: 12,
+    },
+    ReceiveCase {
+        case: "AUTN 15",
+        rand: 16,
+        autn: 15,
+        answer: 36,
+        auts: 14,
+        scratch: 96,
+        spoiled: false,
+        seen: false,
+        wanted: 15,
+    },
+    ReceiveCase {
+        case: "AUTN 0",
+        rand: 16,
+        autn: 0,
+        answer: 36,
+        auts: 14,
+        scratch: 96,
+        spoiled: false,
+        seen: false,
+        wanted: 15,
+    },
+    ReceiveCase {
+        case: "AUTN 15 and behind",
+        rand: 16,
+        autn: 15,
+        answer: 36,
+        auts: 14,
+        scratch: 96,
+        spoiled: false,
+        seen: true,
+        wanted: 15,
+    },
+    ReceiveCase {
+        case: "MAC",
+        rand: 16,
+        autn: 16,
+        answer: 36,
+        auts: 14,
+        scratch: 96,
+        spoiled: true,
+        seen: false,
+        wanted: 16,
+    },
+    ReceiveCase {
+        case: "MAC and behind",
+        rand: 16,
+        autn: 16,
+        answer: 36,
+        auts: 14,
+        scratch: 96,
+        spoiled: true,
+        seen: true,
+        wanted: 16,
+    },
 ];
 
 // The vector of a challenge that the network end gives.
@@ -71,7 +241,13 @@ fn card(vector: [u8; 68], seen: bool) -> Result<CardEnd<Rijndael>, AnyError> {
         let mut answer = [0; 36];
         let mut auts = [0; 14];
         let mut scratch = [0; 96];
-        let _ = card.receive(&vector[0..16], &vector[52..68], &mut answer, &mut auts, &mut scratch);
+        let _ = card.receive(
+            &vector[0..16],
+            &vector[52..68],
+            &mut answer,
+            &mut auts,
+            &mut scratch,
+        );
     }
     Ok(card)
 }
@@ -90,7 +266,13 @@ fn receive(c: &ReceiveCase) -> Result<u8, AnyError> {
     let a = c.answer.min(36);
     let u = c.auts.min(14);
     let m = c.scratch.min(96);
-    let outcome = card.receive(&sent[0..r], &sent[AUTN..t], &mut answer[0..a], &mut auts[0..u], &mut scratch[0..m]);
+    let outcome = card.receive(
+        &sent[0..r],
+        &sent[AUTN..t],
+        &mut answer[0..a],
+        &mut auts[0..u],
+        &mut scratch[0..m],
+    );
     Ok(number_of(outcome))
 }
 
@@ -98,12 +280,42 @@ fn receive(c: &ReceiveCase) -> Result<u8, AnyError> {
 fn messages(rt: &LibcRuntime, report: &mut Report) -> Result<(), AnyError> {
     let card = card(vector()?, false)?;
     for (n, wanted) in [(0, 15), (13, 15), (14, 0), (15, 15), (16, 0), (17, 15)] {
-        report.expect(rt, "message", "a message of some length", wanted, made(card.read_message(part(n))))?;
+        report.expect(
+            rt,
+            "message",
+            "a message of some length",
+            wanted,
+            made(card.read_message(part(n))),
+        )?;
     }
-    report.expect(rt, "reply", "accepted, answer 3", 12, made(card.reply(Ok(()), part(3), part(14))))?;
-    report.expect(rt, "reply", "accepted, AUTS buffer 0", 0, made(card.reply(Ok(()), part(4), part(0))))?;
-    report.expect(rt, "reply", "behind, AUTS buffer 13", 12, made(card.reply(Err(block::Refusal::Behind), part(36), part(13))))?;
-    report.expect(rt, "reply", "MAC, both empty", 0, made(card.reply(Err(block::Refusal::Mac), part(0), part(0))))
+    report.expect(
+        rt,
+        "reply",
+        "accepted, answer 3",
+        12,
+        made(card.reply(Ok(()), part(3), part(14))),
+    )?;
+    report.expect(
+        rt,
+        "reply",
+        "accepted, AUTS buffer 0",
+        0,
+        made(card.reply(Ok(()), part(4), part(0))),
+    )?;
+    report.expect(
+        rt,
+        "reply",
+        "behind, AUTS buffer 13",
+        12,
+        made(card.reply(Err(block::Refusal::Behind), part(36), part(13))),
+    )?;
+    report.expect(
+        rt,
+        "reply",
+        "MAC, both empty",
+        0,
+        made(card.reply(Err(block::Refusal::Mac), part(0), part(0))),
+    )
 }
 
 // The grounds of a receive, messages and replies.

@@ -37,7 +37,14 @@ impl Report {
     }
 
     // Notes one case: the number that it should get, and the one that it got.
-    pub fn expect(&mut self, rt: &LibcRuntime, call: &str, case: &str, wanted: u8, got: u8) -> Result<(), AnyError> {
+    pub fn expect(
+        &mut self,
+        rt: &LibcRuntime,
+        call: &str,
+        case: &str,
+        wanted: u8,
+        got: u8,
+    ) -> Result<(), AnyError> {
         if wanted == got {
             self.right = self.right.saturating_add(1);
             println!(rt, "{call:<10} {case:<44} {got:>2}")?;

@@ -16,9 +16,13 @@ use rijndael::RijndaelKernel;
 use std::error::AnyError;
 
 const KEY: [u8; 32] = [0x2b; 32];
+
 const OP: [u8; 32] = [0xcd; 32];
+
 const RAND: [u8; 16] = [0x23; 16];
+
 const AMF: [u8; 2] = [0x80, 0x00];
+
 const NUMBER: [u8; 6] = [0; 6];
 
 const SIZES: Sizes = Sizes {
@@ -34,9 +38,13 @@ const SIZES: Sizes = Sizes {
 
 // Where the parts of the vector end: RAND, XRES, CK, IK, AUTN.
 const XRES: usize = 16;
+
 const CK: usize = 24;
+
 const IK: usize = 40;
+
 const AUTN: usize = 56;
+
 const VECTOR: usize = 72;
 
 // The two ends of a pair, on kernels of one key.
@@ -91,14 +99,26 @@ fn show_vector(rt: &LibcRuntime, vector: [u8; 72]) -> Result<(), AnyError> {
 }
 
 // Shows the parts of a message as the card reads it.
-fn show_message(rt: &LibcRuntime, card: &CardEnd<Rijndael>, message: &[u8]) -> Result<(), AnyError> {
+fn show_message(
+    rt: &LibcRuntime,
+    card: &CardEnd<Rijndael>,
+    message: &[u8],
+) -> Result<(), AnyError> {
     match card.read_message(message) {
         Ok(Message::Challenge(token)) => {
-            println!(rt, "  a challenge token: masked number {}", Hex(token.masked))?;
+            println!(
+                rt,
+                "  a challenge token: masked number {}",
+                Hex(token.masked)
+            )?;
             println!(rt, "  AMF {}, MAC-A {}", Hex(token.amf), Hex(token.mac))?;
         }
         Ok(Message::Resync(token)) => {
-            println!(rt, "  a resynchronisation token: masked number {}", Hex(token.masked))?;
+            println!(
+                rt,
+                "  a resynchronisation token: masked number {}",
+                Hex(token.masked)
+            )?;
             println!(rt, "  MAC-S {}", Hex(token.mac))?;
         }
         Err(e) => println!(rt, "  refused {e}")?,
@@ -107,11 +127,21 @@ fn show_message(rt: &LibcRuntime, card: &CardEnd<Rijndael>, message: &[u8]) -> R
 }
 
 // Hands RAND and AUTN to the card, prints what came of it, and gives back the reply's first bytes.
-fn receive(rt: &LibcRuntime, card: &mut CardEnd<Rijndael>, vector: [u8; 72]) -> Result<[u8; 8], AnyError> {
+fn receive(
+    rt: &LibcRuntime,
+    card: &mut CardEnd<Rijndael>,
+    vector: [u8; 72],
+) -> Result<[u8; 8], AnyError> {
     let mut answer = [0; 40];
     let mut auts = [0; 14];
     let mut scratch = [0; 96];
-    let outcome = card.receive(&vector[0..XRES], &vector[AUTN..VECTOR], &mut answer, &mut auts, &mut scratch);
+    let outcome = card.receive(
+        &vector[0..XRES],
+        &vector[AUTN..VECTOR],
+        &mut answer,
+        &mut auts,
+        &mut scratch,
+    );
     match outcome {
         Ok(()) => println!(rt, "  receive    accepted: RES CK IK {}", Hex(&answer))?,
         Err(e) => println!(rt, "  receive    refused {e}")?,
@@ -131,7 +161,11 @@ fn receive(rt: &LibcRuntime, card: &mut CardEnd<Rijndael>, vector: [u8; 72]) -> 
     Ok(res)
 }
 
-fn show_confirm(rt: &LibcRuntime, label: &str, outcome: Result<bool, Refusal>) -> Result<(), AnyError> {
+fn show_confirm(
+    rt: &LibcRuntime,
+    label: &str,
+    outcome: Result<bool, Refusal>,
+) -> Result<(), AnyError> {
     match outcome {
         Ok(true) => println!(rt, "  {label:<10} yes")?,
         Ok(false) => println!(rt, "  {label:<10} no")?,
@@ -168,7 +202,12 @@ pub fn show(rt: &LibcRuntime) -> Result<(), AnyError> {
 }
 
 // The card takes the second challenge, then the first, which is behind by then.
-fn answer_all(rt: &LibcRuntime, card: &mut CardEnd<Rijndael>, first: [u8; 72], second: [u8; 72]) -> Result<[u8; 8], AnyError> {
+fn answer_all(
+    rt: &LibcRuntime,
+    card: &mut CardEnd<Rijndael>,
+    first: [u8; 72],
+    second: [u8; 72],
+) -> Result<[u8; 8], AnyError> {
     show_vector(rt, second)?;
     show_message(rt, card, &second[AUTN..VECTOR])?;
     let res = receive(rt, card, second)?;

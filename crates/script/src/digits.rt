@@ -5,7 +5,6 @@ ghost use Rattle.std.specs.Of.Vec.{vec-items};
 ghost use Rattle.std.specs.Text.{digitValue};
 ghost use Rattle.std.specs.Vec.{made};
 ghost use Rattle.script.specs.Spelling.{Spells, SpellsNothing};
-
 use std::alloc::AllocError;
 use std::alloc::Global;
 

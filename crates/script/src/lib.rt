@@ -14,6 +14,6 @@ pub use orders::SizeSet;
 pub use orders::Source;
 pub use orders::Step;
 pub use orders::Where;
-pub use reading::parse;
 pub use reading::Fault;
 pub use reading::FaultDisplay;
+pub use reading::parse;

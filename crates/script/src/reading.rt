@@ -1,3 +1,7 @@
+use super::fields::Expected;
+use super::fields::ExpectedDebug;
+use super::fields::ExpectedDisplay;
+use super::fields::ExpectedFromAlloc;
 use super::fields::bytes;
 use super::fields::count;
 use super::fields::count_or;
@@ -5,10 +9,6 @@ use super::fields::only;
 use super::fields::source;
 use super::fields::ticket;
 use super::fields::value_of;
-use super::fields::Expected;
-use super::fields::ExpectedDebug;
-use super::fields::ExpectedDisplay;
-use super::fields::ExpectedFromAlloc;
 use super::orders::Mask;
 use super::orders::Order;
 use super::orders::Setting;
@@ -21,7 +21,9 @@ use std::fmt;
 
 // Lengths of buffers where a step names none.
 const ROOM: usize = 256;
+
 const AUTS_ROOM: usize = 64;
+
 const SCRATCH: usize = 96;
 
 // A line that cannot be read: its number from 1, and what was expected of it.
@@ -55,7 +57,10 @@ fn mask(words: &str) -> Result<Mask, Expected> {
 }
 
 fn sizes(words: &str) -> Result<Setting, Expected> {
-    only(words, &["rand", "sqn", "ak", "mac", "res", "ck", "ik", "mask"])?;
+    only(
+        words,
+        &["rand", "sqn", "ak", "mac", "res", "ck", "ik", "mask"],
+    )?;
     let sqn = count(words, "sqn")?;
     Ok(Setting::Sizes(SizeSet {
         rand: count(words, "rand")?,
@@ -132,7 +137,10 @@ fn receive(heap: Global, words: &str) -> Result<Step, Expected> {
 }
 
 fn trace(heap: Global, words: &str) -> Result<Step, Expected> {
-    only(words, &["end", "index", "rand", "size", "carried", "room", "scratch"])?;
+    only(
+        words,
+        &["end", "index", "rand", "size", "carried", "room", "scratch"],
+    )?;
     let end = match value_of(words, "end") {
         Some("network") => Where::Network,
         Some("card") => Where::Card,

@@ -34,4 +34,11 @@ impl<K: Kernel> CardEnd<K> {
     {
         self.core.is_sound();
     }
+
+    // The end's size set.
+    pub fn sizes(&self) -> Sizes
+        ensures { λ r. ⌜ r ≡ cardSetup (K·Kernel .forth) (now (self .entry)) .sizes ⌝ }
+    {
+        self.core.admitted().sizes()
+    }
 }

@@ -1,4 +1,3 @@
-ghost use mathlib.Core.Path.{_≡_};
 ghost use Rattle.block.specs.Refusals.{Answers};
 ghost use Rattle.aka.specs.Replies.{shortGround, Front, replyGround, Replies};
 ghost use Rattle.aka.specs.Views.{cardSetup};
@@ -21,6 +20,7 @@ impl<K: Kernel> CardEnd<K> {
     }
 }
 
+// The part of either buffer that goes back; nothing is the empty part at the front of the answer buffer.
 fn reply_part<'a>(
     admitted: Admitted,
     outcome: Result<(), Refusal>,

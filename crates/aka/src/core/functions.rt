@@ -2,7 +2,7 @@ ghost use mathlib.Core.Path.{_≡_};
 ghost use mathlib.Core.List.{_++_};
 ghost use Prim.Native.Nat.{_+_, _<_, _≤_};
 ghost use lib.ListN.{length, take};
-ghost use Rattle.aka.specs.Setup.{ask as outputOf, f5 as AK, akStar};
+ghost use Rattle.aka.specs.Setup.{ask as outputOf, f5 as AK, akStar, macS};
 ghost use Rattle.aka.specs.Parts.{Ready, KeysOf};
 ghost use Rattle.aka.specs.Views.{setupOf};
 use super::Core;
@@ -54,6 +54,15 @@ impl<K: Kernel> Core<K> {
         let n = s.sqn;
         let carried = carry(amf, sqn, n);
         self.output(index, rand, s.mac, &carried[0..2 + n], scratch)
+    }
+
+    // MAC-S of a number: f1* with AMF 00 00.
+    pub fn mac_s(&self, rand: &[u8], sqn: [u8; 32], scratch: &mut [u8]) -> [u8; 32]
+        requires { ⌜ Ready (setupOf (K·Kernel .forth) (now self)) (now rand) (now scratch) ⌝ }
+        ensures value { λ r. ⌜ take (now (self .entry) .admitted .sizes .mac) r ≡ macS (setupOf (K·Kernel .forth) (now (self .entry))) (now (rand .entry)) (take (now (self .entry) .admitted .sizes .sqn) sqn) ⌝ }
+        ensures ready { λ _. ⌜ Ready (setupOf (K·Kernel .forth) (now (self .entry))) (now (rand .entry)) (now (scratch .exit)) ⌝ }
+    {
+        self.mac(0, rand, &[0, 0], sqn, scratch)
     }
 
     // AK*: f5*, or f5** of the MAC-S.

@@ -6,7 +6,7 @@ ghost use Rattle.std.specs.shelf.Text.{sameBytes};
 ghost use Rattle.block.specs.Bytes.{over, _⊕_};
 ghost use Rattle.block.specs.Numbers.{bytesOf};
 ghost use Rattle.aka.specs.Tokens.{auts as autsOf, autsSize, autnSize};
-ghost use Rattle.aka.specs.Parts.{Ready, Told, TellsAutn, TellsAuts};
+ghost use Rattle.aka.specs.Parts.{Ready, TellsNumber, TellsAutn, TellsAuts};
 ghost use Rattle.aka.specs.Views.{setupOf};
 use super::Core;
 use crate::bytes::append;
@@ -58,11 +58,11 @@ impl<K: Kernel> Core<K> {
         self.make_temp(rand, scratch);
         let ak = self.ak_star(rand, token.mac, scratch);
         let sqn = unmask(token.masked, ak);
-        let mac = self.mac(0, rand, &[0, 0], sqn, scratch);
+        let mac = self.mac_s(rand, sqn, scratch);
         told(self.admitted, sqn, mac, token.mac)
     }
 
-    // Writes the AUTS of a number, at the TEMP in the scratch bytes. MAC-S has AMF 00 00.
+    // Writes the AUTS of a number, at the TEMP in the scratch bytes.
     pub fn write_auts(&self, number: u128, rand: &[u8], out: &mut [u8], scratch: &mut [u8])
         requires room { ⌜ autsSize (now self .admitted .sizes) ≤ length (now out) ⌝ }
         requires ready { ⌜ Ready (setupOf (K·Kernel .forth) (now self)) (now rand) (now scratch) ⌝ }
@@ -71,7 +71,7 @@ impl<K: Kernel> Core<K> {
         let s = self.admitted.sizes();
         let m = s.mac;
         let sqn = number_block(number, s.sqn);
-        let mac = self.mac(0, rand, &[0, 0], sqn, scratch);
+        let mac = self.mac_s(rand, sqn, scratch);
         let ak = self.ak_star(rand, &mac[0..m], scratch);
         put_auts(self.admitted, xor_blocks(sqn, ak), mac, out);
     }
@@ -87,7 +87,7 @@ fn unmask(masked: &[u8], ak: [u8; 32]) -> [u8; 32]
 
 // The number at the front of a block, if the MAC is the front of its block.
 fn told(admitted: Admitted, sqn: [u8; 32], mac: [u8; 32], received: &[u8]) -> Option<u128>
-    ensures { λ r. ⌜ Told (sameBytes (take (admitted .sizes .mac) mac) (now (received .entry))) (admitted .sizes .sqn) (take (admitted .sizes .sqn) sqn) r ⌝ }
+    ensures { λ r. ⌜ TellsNumber (sameBytes (take (admitted .sizes .mac) mac) (now (received .entry))) (admitted .sizes .sqn) (take (admitted .sizes .sqn) sqn) r ⌝ }
 {
     let s = admitted.sizes();
     let m = s.mac;

@@ -10,7 +10,7 @@ use block::Refusal;
 
 // Reads a token: its length under the size set tells which it is.
 pub fn read_message<'a>(admitted: Admitted, bytes: &'a [u8]) -> Result<Message<'a>, Refusal>
-    ensures { λ r. ⌜ Reads (admitted .sizes) (now (bytes .entry)) r ⌝ }
+    ensures { λ r. ⌜ Reads (admitted .sizes) (bytes .entry) r ⌝ }
 {
     let s = admitted.sizes();
     if bytes.len() == s.sqn + 2 + s.mac {
@@ -25,18 +25,24 @@ pub fn read_message<'a>(admitted: Admitted, bytes: &'a [u8]) -> Result<Message<'
 // The parts of an AUTN: the masked number, the AMF and MAC-A.
 pub fn split_autn<'a>(admitted: Admitted, bytes: &'a [u8]) -> ChallengeToken<'a>
     requires { ⌜ length (now bytes) ≡ autnSize (admitted .sizes) ⌝ }
-    ensures { λ r. ⌜ AutnParts (admitted .sizes) (now (bytes .entry)) r ⌝ }
+    ensures { λ r. ⌜ AutnParts (admitted .sizes) (bytes .entry) r ⌝ }
 {
-    let (masked, rest) = bytes.split_at(admitted.sizes().sqn);
-    let (amf, mac) = rest.split_at(2);
+    let n = admitted.sizes().sqn;
+    let all = bytes.len();
+    let masked = &bytes[0..n];
+    let amf = &bytes[n..n + 2];
+    let mac = &bytes[n + 2..all];
     ChallengeToken { masked, amf, mac }
 }
 
 // The parts of an AUTS: the masked number and MAC-S.
 pub fn split_auts<'a>(admitted: Admitted, bytes: &'a [u8]) -> ResyncToken<'a>
     requires { ⌜ length (now bytes) ≡ autsSize (admitted .sizes) ⌝ }
-    ensures { λ r. ⌜ AutsParts (admitted .sizes) (now (bytes .entry)) r ⌝ }
+    ensures { λ r. ⌜ AutsParts (admitted .sizes) (bytes .entry) r ⌝ }
 {
-    let (masked, mac) = bytes.split_at(admitted.sizes().sqn);
+    let n = admitted.sizes().sqn;
+    let all = bytes.len();
+    let masked = &bytes[0..n];
+    let mac = &bytes[n..all];
     ResyncToken { masked, mac }
 }

@@ -3,7 +3,6 @@ ghost use mathlib.Core.List.{[]};
 ghost use Prim.Native.Nat.{_+_, _^_, _<_};
 ghost use lib.ListN.{length};
 ghost use Rattle.block.specs.Bytes.{zeros};
-ghost use Rattle.block.specs.Numbers.{bytesOf};
 ghost use Rattle.aka.specs.States.{Shows};
 ghost use Rattle.aka.specs.Calls.{doesChallenge};
 ghost use Rattle.aka.specs.Grounds.{MayChallenge};

@@ -44,4 +44,11 @@ impl<K: Kernel> NetworkEnd<K> {
     {
         self.core.is_sound();
     }
+
+    // The end's size set.
+    pub fn sizes(&self) -> Sizes
+        ensures { λ r. ⌜ r ≡ networkSetup (K·Kernel .forth) (now (self .entry)) .sizes ⌝ }
+    {
+        self.core.admitted().sizes()
+    }
 }

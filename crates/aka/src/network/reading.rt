@@ -16,7 +16,7 @@ use kernel::Kernel;
 impl<K: Kernel> NetworkEnd<K> {
     // Reads a received token as parts of its bytes: its length under the end's size set tells which it is.
     pub fn read_message<'a>(&self, bytes: &'a [u8]) -> Result<Message<'a>, Refusal>
-        ensures { λ r. ⌜ Reads (networkSetup (K·Kernel .forth) (now (self .entry)) .sizes) (now (bytes .entry)) r ⌝ }
+        ensures { λ r. ⌜ Reads (networkSetup (K·Kernel .forth) (now (self .entry)) .sizes) (bytes .entry) r ⌝ }
     {
         message::read_message(self.core.admitted(), bytes)
     }

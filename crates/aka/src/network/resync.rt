@@ -18,7 +18,7 @@ use kernel::Kernel;
 
 impl<K: Kernel> NetworkEnd<K> {
     // Takes the AUTS of the open challenge, which ends: where it tells the larger number, the end's number is raised to it.
-    pub(crate) fn resync(
+    pub fn resync(
         &mut self,
         ticket: Ticket,
         auts: &[u8],

@@ -12,8 +12,9 @@ loop-i-again c =
     let n : vec-len (c .loop-i .bytes) ≡ c .loop-i .i = c .loop-i .inv .0 in
     let h : getD (vec-items (c .push .last .self)) (vec-len (c .loop-i .bytes)) 0 ≡ c .in-Some .high * 16 + c .in-Some-digit .low = c .in-Continue-push .ensures tt .places .1 0 refl in
     let a = c .in-Some .ensures tt .1 in
-    let b = c .in-Some-digit .ensures tt .1 in
-    (search needs,
-     below-more _ _
-     (λ k l. c .in-Continue-push .ensures tt .places .0 k 0 (omega arith) ∙ c .loop-i .inv .1 k l)
-     (cc))
+    let b = c .in-Some-digit .ensures tt .1 in (
+      search needs,
+      below-more _ _
+          (λ k l. c .in-Continue-push .ensures tt .places .0 k 0 (omega arith) ∙ c .loop-i .inv .1 k l)
+          (cc),
+    )

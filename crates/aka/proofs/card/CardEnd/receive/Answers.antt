@@ -5,7 +5,6 @@ use borrow.Author.Needs.{needs}
 use lib.Dec.{ltb}
 use lib.ListN.{length}
 use Rattle.std.proofs.shelf.Tests.{lt-ltb, le-ltb}
-use Rattle.block.specs.Numbers.{bytesOf}
 use Rattle.aka.specs.declared.sizes.Admitted.{Admitted}
 use Rattle.aka.specs.Numbers.{exceeds}
 use Rattle.aka.specs.Setup.{Setup}

@@ -1,4 +1,3 @@
-use borrow.Author.Needs.{needs}
 use Rattle.milenage.specs.Blocks.{answer}
 use Rattle.aka.proofs.core.Core.ask.Needs as need
 

@@ -1,5 +1,3 @@
-use mathlib.Core.List.{List}
-use Prim.Native.Nat.{ℕ}
 use Rattle.aka.specs.Setup.{Setup}
 use Rattle.aka.specs.Views.{setupOf}
 use Rattle.aka.proofs.LaidOut.{autn-told}

@@ -1,7 +1,6 @@
 use mathlib.Core.Path.{_≡_, ap, subst}
 use mathlib.Core.List.{List}
 use Prim.Native.Nat.{ℕ, _-_}
-use lib.ListN.{take}
 use Rattle.aka.specs.declared.sizes.Sizes.{Sizes}
 use Rattle.aka.specs.Setup.{Setup}
 use Rattle.aka.specs.Parts.{TellsAuts}

@@ -8,5 +8,5 @@ returns g c =
     let s : Setup = setupOf (g .K·Kernel .forth) (c .args .self .now) in
     let t = c .split-auts-token .result in
     let p = c .split-auts-token .ensures in
-    auts-told s (c .args .rand .now) (c .args .auts .now) (t .mac .now) (t .masked .now) (c .ak-star-ak .result) (c .unmask-sqn .result) (c .mac-mac .result) (c .told .result)
-    (p .masked) (p .mac) (p .masked-long) (c .ak-star-ak .ensures .value) (c .unmask-sqn .ensures) (c .mac-mac .ensures .value) (c .told .ensures)
+    auts-told s (c .args .rand .now) (c .args .auts .now) (t .mac .now) (t .masked .now) (c .ak-star-ak .result) (c .unmask-sqn .result) (c .mac-s-mac .result) (c .told .result)
+    (p .masked) (p .mac) (p .masked-long) (c .ak-star-ak .ensures .value) (c .unmask-sqn .ensures) (c .mac-s-mac .ensures .value) (c .told .ensures)

@@ -1,4 +1,4 @@
-use mathlib.Core.Path.{_≡_, _∙_}
+use mathlib.Core.Path.{_∙_}
 use borrow.Author.Needs.{needs}
 use Rattle.milenage.specs.Blocks.{temp}
 use Rattle.aka.proofs.core.Core.make_temp.Needs as need

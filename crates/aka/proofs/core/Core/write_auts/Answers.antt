@@ -1,5 +1,5 @@
-use mathlib.Core.Path.{_≡_, _∙_, ap, subst, sym}
-use mathlib.Core.List.{List, _++_}
+use mathlib.Core.Path.{_≡_, _∙_, ap, subst}
+use mathlib.Core.List.{List}
 use Prim.Native.Nat.{ℕ, _-_}
 use lib.ListN.{take}
 use Rattle.block.specs.Bytes.{over}
@@ -18,7 +18,7 @@ returns g c =
     let n : ℕ = c .sizes-s .result .sqn in
     let m : ℕ = c .sizes-s .result .mac in
     let b : List ℕ = c .number-block-sqn .result in
-    let mac : List ℕ = c .mac-mac .result in
+    let mac : List ℕ = c .mac-s-mac .result in
     let ak : List ℕ = c .ak-star-ak .result in
     let e : n ≡ s .sizes .sqn = ap (λ (z : Sizes). z .sqn) (c .sizes-s .ensures) in
     let f : m ≡ s .sizes .mac = ap (λ (z : Sizes). z .mac) (c .sizes-s .ensures) in
@@ -27,4 +27,4 @@ returns g c =
     let v : take (s .sizes .sqn) ak ≡ akStar s r (take (m - 0) mac) = c .ak-star-ak .ensures .value in
     let k : take (s .sizes .sqn) ak ≡ akStar s r (take (s .sizes .mac) mac) = v ∙ ap (akStar s r) (cut-to m (s .sizes .mac) mac f) in
     c .put-auts .ensures
-    ∙ ap (λ (t : List ℕ). over t (c .args .out .now)) (auts-is s r (bytesOf (s .sizes .sqn) (c .args .number)) b mac ak (c .xor-blocks .result) x (c .mac-mac .ensures .value) k (c .xor-blocks .ensures))
+    ∙ ap (λ (t : List ℕ). over t (c .args .out .now)) (auts-is s r (bytesOf (s .sizes .sqn) (c .args .number)) b mac ak (c .xor-blocks .result) x (c .mac-s-mac .ensures .value) k (c .xor-blocks .ensures))

@@ -1,4 +1,4 @@
-use mathlib.Core.Path.{_≡_, refl, sym, _∙_, ap}
+use mathlib.Core.Path.{_≡_, refl, _∙_, ap}
 use mathlib.Core.List.{List, [], _++_}
 use Prim.Native.Nat.{ℕ, _+_, _-_}
 use native.Mathlib.Omega.{arith}
@@ -6,7 +6,7 @@ use borrow.Author.Needs.{needs}
 use lib.ListN.{length, length-append, take, replicate}
 use Rattle.std.proofs.shelf.Lists.{places}
 use Rattle.block.specs.Bytes.{over}
-use Rattle.aka.proofs.Written.{front-over, appends-front, appends-both}
+use Rattle.aka.proofs.Written.{front-over}
 use Rattle.aka.proofs.core.functions.carry.Needs as need
 
 pub returns : need.returns

@@ -1,7 +1,7 @@
-use mathlib.Core.Path.{_≡_, refl, sym, _∙_, ap}
+use mathlib.Core.Path.{_≡_, _∙_, ap}
 use mathlib.Core.List.{List, _++_}
 use Prim.Native.Nat.{ℕ, _-_}
-use lib.ListN.{length, take}
+use lib.ListN.{take}
 use Rattle.block.specs.Bytes.{over}
 use Rattle.aka.specs.declared.sizes.Sizes.{Sizes}
 use Rattle.aka.proofs.Written.{appends-both, appends-front, cut-to}

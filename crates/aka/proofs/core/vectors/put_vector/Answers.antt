@@ -1,15 +1,12 @@
-use mathlib.Core.Path.{_≡_, refl, sym, _∙_, ap, subst}
-use mathlib.Core.List.{List, [], _++_}
-use Prim.Native.Nat.{ℕ, _+_, _-_, _≤_}
+use mathlib.Core.Path.{_≡_, _∙_}
+use mathlib.Core.List.{List, _++_}
+use Prim.Native.Nat.{ℕ, _+_, _-_}
 use native.Mathlib.Omega.{arith}
-use borrow.Author.Needs.{needs}
 use lib.ListN.{length, length-append, take}
 use Rattle.std.proofs.shelf.Lists.{length-take}
-use Rattle.block.specs.Bytes.{over}
 use Rattle.milenage.specs.Steps.{Appends}
 use Rattle.aka.specs.declared.sizes.Sizes.{Sizes}
-use Rattle.aka.specs.declared.sizes.Admitted.{Admitted}
-use Rattle.aka.proofs.Written.{appends-both, appends-front, cut-to}
+use Rattle.aka.proofs.Written.{appends-both, appends-front}
 use Rattle.aka.proofs.core.vectors.put_vector.Needs as need
 
 pub returns : need.returns

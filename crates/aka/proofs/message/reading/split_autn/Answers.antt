@@ -1,10 +1,27 @@
-use mathlib.Core.Path.{_≡_, refl, sym, _∙_, ap}
-use borrow.Author.Needs.{needs}
+use mathlib.Core.Path.{_≡_, refl, ap}
+use mathlib.Core.List.{List}
+use Prim.Native.Nat.{ℕ, _+_}
 use native.Mathlib.Omega.{arith}
-use Rattle.std.proofs.shelf.Lists.{drop-drop}
+use lib.ListN.{length}
+use Rattle.aka.specs.declared.sizes.Sizes.{Sizes}
+use Rattle.aka.proofs.Pieces.{part-is, rest-is, part-long, place-is, place-first}
 use Rattle.aka.proofs.message.reading.split_autn.Needs as need
 
 pub returns : need.returns
 returns c =
-    let d = drop-drop 2 (c .args .admitted .sizes .sqn) (c .args .bytes .now) in
-    record { masked = (cc); amf = (cc); mac = (cc); masked-long = search needs; amf-long = search needs; mac-long = search needs }
+    let x : List ℕ = c .args .bytes .now in
+    let z : Sizes = c .args .admitted .sizes in
+    let n : ℕ = c .sizes-n .result .sqn in
+    let e : n ≡ z .sqn = ap (λ (y : Sizes). y .sqn) (c .sizes-n .ensures) in
+    let l : length x ≡ z .sqn + 2 + z .mac = c .pre in
+    record {
+      masked = part-is 0 n 0 (z .sqn) x refl (omega arith);
+      amf = part-is n (n + 2) (z .sqn) 2 x e (omega arith);
+      mac = rest-is (n + 2) (z .sqn + 2) x (omega arith);
+      masked-place = place-first (c .args .bytes .ptr);
+      amf-place = place-is (c .args .bytes .ptr) n (z .sqn) e;
+      mac-place = place-is (c .args .bytes .ptr) (n + 2) (z .sqn + 2) (omega arith);
+      masked-long = part-long 0 n 0 (z .sqn) x refl (omega arith) (omega arith);
+      amf-long = part-long n (n + 2) (z .sqn) 2 x e (omega arith) (omega arith);
+      mac-long = part-long (n + 2) (length x) (z .sqn + 2) (z .mac) x (omega arith) (omega arith) (omega arith);
+    }

@@ -7,7 +7,6 @@ use lib.ListN.{length, take}
 use Rattle.std.proofs.shelf.Ways.{tells}
 use Rattle.block.specs.Numbers.{bytesOf}
 use Rattle.block.proofs.ByteLaws.{take-filled}
-use Rattle.aka.specs.declared.sizes.Sizes.{Sizes}
 use Rattle.aka.specs.declared.sizes.Admitted.{Admitted}
 use Rattle.aka.specs.Setup.{Setup, f2}
 use Rattle.aka.specs.States.{Network}

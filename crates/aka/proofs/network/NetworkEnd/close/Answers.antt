@@ -1,4 +1,4 @@
-use mathlib.Core.Path.{_≡_, refl, sym, ap, _∙_}
+use mathlib.Core.Path.{_≡_, refl, sym}
 use mathlib.Core.Bool.{true, false}
 use Rattle.std.proofs.shelf.Tests.{false≢true}
 use Rattle.aka.specs.States.{stale}

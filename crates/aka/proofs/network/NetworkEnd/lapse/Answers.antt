@@ -1,4 +1,4 @@
-use mathlib.Core.Path.{_≡_, ap, _∙_}
+use mathlib.Core.Path.{ap, _∙_}
 use mathlib.Core.Bool.{not}
 use Rattle.aka.specs.Views.{networkOf}
 use Rattle.aka.proofs.Closed.{shows-lapsed, shows-stale-lapse}
