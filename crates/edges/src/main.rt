@@ -4,6 +4,7 @@ mod functions;
 mod opening;
 mod receives;
 mod report;
+mod resyncs;
 
 use report::Report;
 use std::error::AnyError;
@@ -12,7 +13,8 @@ fn cases(rt: &LibcRuntime, report: &mut Report) -> Result<(), AnyError> {
     functions::check(rt, report)?;
     opening::check(rt, report)?;
     challenges::check(rt, report)?;
-    receives::check(rt, report)
+    receives::check(rt, report)?;
+    resyncs::check(rt, report)
 }
 
 fn run(rt: &LibcRuntime) -> Result<(), AnyError> {

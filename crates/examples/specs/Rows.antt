@@ -9,6 +9,7 @@ use Rattle.rijndael.specs.State.{table, at, mix}
 use Rattle.rijndael.specs.Schedule.{words}
 use Rattle.milenage.specs.Question.{Question, input}
 use Rattle.milenage.specs.Blocks.{standardName, versionBlock}
+use Rattle.aka.specs.Numbers.{nextNumber}
 
 infix 30 _gives_
 pub record Row : Type 0 where
@@ -64,6 +65,8 @@ rows =
     ∷ (take 2 (drop 16 (input testOneConstants (question 7 32 12 testOneMacS))) gives (0xb1 ∷ 0x7b ∷ []))
     -- MAC 8, AK 6: byte 1 of f5**
     ∷ (take 1 (drop 1 (plainInput (question 7 16 6 (zeros 8)))) gives (0x39 ∷ []))
+    -- the number after 00 00 00 00 00 ff
+    ∷ (nextNumber (0x00 ∷ 0x00 ∷ 0x00 ∷ 0x00 ∷ 0x00 ∷ 0xff ∷ []) gives (0x00 ∷ 0x00 ∷ 0x00 ∷ 0x00 ∷ 0x01 ∷ 0x00 ∷ []))
     ∷ []
 
 -- every row of a table yields what is published

@@ -15,5 +15,6 @@ pub use orders::Source;
 pub use orders::Step;
 pub use orders::Where;
 pub use reading::Fault;
+pub use reading::FaultDebug;
 pub use reading::FaultDisplay;
 pub use reading::parse;

@@ -1,3 +1,5 @@
+ghost use Prim.Native.Nat.{_≤_};
+ghost use Rattle.std.specs.Vec.{refused};
 use super::fields::Expected;
 use super::fields::ExpectedDebug;
 use super::fields::ExpectedDisplay;
@@ -198,7 +200,9 @@ fn order(heap: Global, line: &str) -> Result<Option<Order>, Expected> {
 }
 
 // Reads a script: its orders in the order of their lines, or the first line that cannot be read.
-pub fn parse(heap: Global, text: &str) -> Result<Vec<Order>, Fault> {
+pub fn parse(heap: Global, text: &str) -> Result<Vec<Order>, Fault>
+    ensures { λ r. ⌜ refused r (λ fault. 1 ≤ fault .line) ⌝ }
+{
     let mut orders = Vec::new(heap);
     let mut line = 0usize;
     for words in text.lines() {

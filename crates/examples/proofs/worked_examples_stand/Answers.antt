@@ -8,6 +8,8 @@ use Rattle.std.proofs.shelf.Equals.{sameBytes-decides}
 use Rattle.field.specs.Field.{xtime, product, mul, power, inverse, bit, affineBit, ofBits, affine, S}
 use Rattle.rijndael.specs.State.{mixBy}
 use Rattle.rijndael.specs.Schedule.{doubled, xorWord, rotWord, subWord, change, next, more, words}
+use Rattle.aka.specs.Numbers.{nextNumber}
+use Rattle.block.specs.Numbers.{bytesOf}
 use Rattle.block.specs.Bytes.{_⊕_, filled}
 use Rattle.milenage.specs.Functions.{kindOf}
 use Rattle.milenage.specs.Question.{byte0, byte1, header, input}
@@ -38,5 +40,5 @@ tested (r ∷ rs) t =
     (from-decides same (r .yields ≡ r .published) (sameBytes-decides (r .yields) (r .published)) (left same (test rs) t), tested rs (right same (test rs) t))
 
 pub returns : need.returns
-unfolding xtime product mul power inverse bit affineBit ofBits affine S mixBy doubled xorWord rotWord subWord change next more words _⊕_ filled kindOf byte0 byte1 header input versionBlock
+unfolding xtime product mul power inverse bit affineBit ofBits affine S mixBy doubled xorWord rotWord subWord change next more words _⊕_ filled kindOf byte0 byte1 header input versionBlock bytesOf nextNumber
 returns c = tested rows tt
