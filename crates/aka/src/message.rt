@@ -1,8 +1,8 @@
 mod reading;
 
 pub use reading::read_message;
-pub use reading::split_autn;
-pub use reading::split_auts;
+pub(crate) use reading::split_autn;
+pub(crate) use reading::split_auts;
 
 // AUTN, the token of a challenge: parts of the received bytes.
 #[derive(Clone, Copy)]

@@ -8,7 +8,7 @@ use block::number_of;
 use block::put_number;
 
 // The number that the bytes tell.
-pub fn read_number(bytes: &[u8]) -> u128
+pub(crate) fn read_number(bytes: &[u8]) -> u128
     requires { ⌜ length (now bytes) ≤ 12 ⌝ }
     ensures value { λ r. ⌜ r ≡ value (now (bytes .entry)) ⌝ }
     ensures below { λ r. ⌜ r < 256 ^ length (now (bytes .entry)) ⌝ }
@@ -21,7 +21,7 @@ pub fn read_number(bytes: &[u8]) -> u128
 }
 
 // The number's bytes, then zeros.
-pub fn number_block(n: u128, size: usize) -> [u8; 32]
+pub(crate) fn number_block(n: u128, size: usize) -> [u8; 32]
     requires { ⌜ size ≤ 32 ⌝ }
     ensures { λ r. ⌜ take size r ≡ bytesOf size n ⌝ }
 {
@@ -31,7 +31,7 @@ pub fn number_block(n: u128, size: usize) -> [u8; 32]
 }
 
 // Whether no number of the size comes after n.
-pub fn is_largest(n: u128, size: usize) -> bool
+pub(crate) fn is_largest(n: u128, size: usize) -> bool
     requires size { ⌜ size ≤ 12 ⌝ }
     requires fits { ⌜ n < 256 ^ size ⌝ }
     ensures tells { λ r. ⌜ r ≡ allFf (bytesOf size n) ⌝ }

@@ -11,7 +11,7 @@ pub const INPUT: usize = 32;
 pub const OUTPUT: usize = 64;
 
 // Puts a block into the scratch bytes. What lies before it stays.
-pub fn put_block(scratch: &mut [u8], at: usize, block: [u8; 32])
+pub(crate) fn put_block(scratch: &mut [u8], at: usize, block: [u8; 32])
     requires { ⌜ at + 32 ≤ length (now scratch) ⌝ }
     ensures here { λ _. ⌜ blockAt at (now (scratch .exit)) ≡ block ⌝ }
     ensures before { λ _. ⌜ ((k : ℕ) → k + 32 ≤ at → blockAt k (now (scratch .exit)) ≡ blockAt k (now (scratch .entry))) ⌝ }
@@ -20,7 +20,7 @@ pub fn put_block(scratch: &mut [u8], at: usize, block: [u8; 32])
 }
 
 // Reads a block of the scratch bytes.
-pub fn get_block(scratch: &[u8], at: usize) -> [u8; 32]
+pub(crate) fn get_block(scratch: &[u8], at: usize) -> [u8; 32]
     requires { ⌜ at + 32 ≤ length (now scratch) ⌝ }
     ensures { λ r. ⌜ r ≡ blockAt at (now (scratch .entry)) ⌝ }
 {

@@ -12,7 +12,7 @@ pub const INPUT: usize = 32;
 pub const OUTPUT: usize = 64;
 
 // Puts a block into the scratch bytes. Blocks beside it stay.
-pub fn put_block(scratch: &mut [u8], at: usize, block: [u8; 32])
+pub(crate) fn put_block(scratch: &mut [u8], at: usize, block: [u8; 32])
     requires { ⌜ at + 32 ≤ length (now scratch) ⌝ }
     ensures here { λ _. ⌜ blockAt at (now (scratch .exit)) ≡ block ⌝ }
     ensures before { λ _. ⌜ ((k : ℕ) → k + 32 ≤ at → blockAt k (now (scratch .exit)) ≡ blockAt k (now (scratch .entry))) ⌝ }
@@ -22,7 +22,7 @@ pub fn put_block(scratch: &mut [u8], at: usize, block: [u8; 32])
 }
 
 // Reads a block of the scratch bytes.
-pub fn get_block(scratch: &[u8], at: usize) -> [u8; 32]
+pub(crate) fn get_block(scratch: &[u8], at: usize) -> [u8; 32]
     requires { ⌜ at + 32 ≤ length (now scratch) ⌝ }
     ensures { λ r. ⌜ r ≡ blockAt at (now (scratch .entry)) ⌝ }
 {
@@ -32,7 +32,7 @@ pub fn get_block(scratch: &[u8], at: usize) -> [u8; 32]
 }
 
 // The one run of a kernel: x and what the kernel makes of it go into the scratch bytes, and TEMP stays.
-pub fn run<K: Kernel>(kernel: &K, x: [u8; 32], scratch: &mut [u8])
+pub(crate) fn run<K: Kernel>(kernel: &K, x: [u8; 32], scratch: &mut [u8])
     requires { ⌜ 96 ≤ length (now scratch) ⌝ }
     ensures temp { λ _. ⌜ blockAt 0 (now (scratch .exit)) ≡ blockAt 0 (now (scratch .entry)) ⌝ }
     ensures input { λ _. ⌜ blockAt 32 (now (scratch .exit)) ≡ x ⌝ }

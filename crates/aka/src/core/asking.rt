@@ -33,7 +33,7 @@ impl<K: Kernel> Core<K> {
     }
 
     // Makes TEMP of a RAND. It stays in the scratch bytes for every function that is asked.
-    pub fn make_temp(&self, rand: &[u8], scratch: &mut [u8])
+    pub(crate) fn make_temp(&self, rand: &[u8], scratch: &mut [u8])
         requires long { ⌜ 96 ≤ length (now scratch) ⌝ }
         requires rand { ⌜ length (now rand) ≡ now self .admitted .sizes .rand ⌝ }
         ensures { λ _. ⌜ Ready (setupOf (K·Kernel .forth) (now (self .entry))) (now (rand .entry)) (now (scratch .exit)) ⌝ }
@@ -56,7 +56,7 @@ impl<K: Kernel> Core<K> {
     }
 
     // The block that a function's output is cut from.
-    pub fn output(
+    pub(crate) fn output(
         &self,
         index: usize,
         rand: &[u8],

@@ -13,7 +13,7 @@ use kernel::Kernel;
 
 impl<K: Kernel> Core<K> {
     // RES, CK and IK: f2, f3 and f4.
-    pub fn keys(&self, rand: &[u8], scratch: &mut [u8]) -> Keys
+    pub(crate) fn keys(&self, rand: &[u8], scratch: &mut [u8]) -> Keys
         requires { ⌜ Ready (setupOf (K·Kernel .forth) (now self)) (now rand) (now scratch) ⌝ }
         ensures value { λ r. ⌜ KeysOf (setupOf (K·Kernel .forth) (now (self .entry))) (now (rand .entry)) r ⌝ }
         ensures ready { λ _. ⌜ Ready (setupOf (K·Kernel .forth) (now (self .entry))) (now (rand .entry)) (now (scratch .exit)) ⌝ }
@@ -26,7 +26,7 @@ impl<K: Kernel> Core<K> {
     }
 
     // AK: f5.
-    pub fn ak(&self, rand: &[u8], scratch: &mut [u8]) -> [u8; 32]
+    pub(crate) fn ak(&self, rand: &[u8], scratch: &mut [u8]) -> [u8; 32]
         requires { ⌜ Ready (setupOf (K·Kernel .forth) (now self)) (now rand) (now scratch) ⌝ }
         ensures value { λ r. ⌜ take (now (self .entry) .admitted .sizes .sqn) r ≡ AK (setupOf (K·Kernel .forth) (now (self .entry))) (now (rand .entry)) ⌝ }
         ensures ready { λ _. ⌜ Ready (setupOf (K·Kernel .forth) (now (self .entry))) (now (rand .entry)) (now (scratch .exit)) ⌝ }
@@ -36,7 +36,7 @@ impl<K: Kernel> Core<K> {
     }
 
     // The MAC of an AMF and a number: f1 by index 1, f1* by index 0.
-    pub fn mac(
+    pub(crate) fn mac(
         &self,
         index: usize,
         rand: &[u8],
@@ -57,7 +57,7 @@ impl<K: Kernel> Core<K> {
     }
 
     // MAC-S of a number: f1* with AMF 00 00.
-    pub fn mac_s(&self, rand: &[u8], sqn: [u8; 32], scratch: &mut [u8]) -> [u8; 32]
+    pub(crate) fn mac_s(&self, rand: &[u8], sqn: [u8; 32], scratch: &mut [u8]) -> [u8; 32]
         requires { ⌜ Ready (setupOf (K·Kernel .forth) (now self)) (now rand) (now scratch) ⌝ }
         ensures value { λ r. ⌜ take (now (self .entry) .admitted .sizes .mac) r ≡ macS (setupOf (K·Kernel .forth) (now (self .entry))) (now (rand .entry)) (take (now (self .entry) .admitted .sizes .sqn) sqn) ⌝ }
         ensures ready { λ _. ⌜ Ready (setupOf (K·Kernel .forth) (now (self .entry))) (now (rand .entry)) (now (scratch .exit)) ⌝ }
@@ -66,7 +66,7 @@ impl<K: Kernel> Core<K> {
     }
 
     // AK*: f5*, or f5** of the MAC-S.
-    pub fn ak_star(&self, rand: &[u8], mac_s: &[u8], scratch: &mut [u8]) -> [u8; 32]
+    pub(crate) fn ak_star(&self, rand: &[u8], mac_s: &[u8], scratch: &mut [u8]) -> [u8; 32]
         requires mac { ⌜ length (now «mac_s») ≡ now self .admitted .sizes .mac ⌝ }
         requires ready { ⌜ Ready (setupOf (K·Kernel .forth) (now self)) (now rand) (now scratch) ⌝ }
         ensures value { λ r. ⌜ take (now (self .entry) .admitted .sizes .sqn) r ≡ akStar (setupOf (K·Kernel .forth) (now (self .entry))) (now (rand .entry)) (now («mac_s» .entry)) ⌝ }

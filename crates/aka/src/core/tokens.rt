@@ -22,7 +22,7 @@ use kernel::Kernel;
 
 impl<K: Kernel> Core<K> {
     // The number that an AUTN tells, if its MAC-A is right. TEMP stays in the scratch bytes.
-    pub fn check_autn(&self, rand: &[u8], autn: &[u8], scratch: &mut [u8]) -> Option<u128>
+    pub(crate) fn check_autn(&self, rand: &[u8], autn: &[u8], scratch: &mut [u8]) -> Option<u128>
         requires long { ⌜ 96 ≤ length (now scratch) ⌝ }
         requires rand { ⌜ length (now rand) ≡ now self .admitted .sizes .rand ⌝ }
         requires autn { ⌜ length (now autn) ≡ autnSize (now self .admitted .sizes) ⌝ }
@@ -38,7 +38,12 @@ impl<K: Kernel> Core<K> {
     }
 
     // The number that an AUTS tells at the RAND that is the front of a block, if its MAC-S is right.
-    pub fn check_auts(&self, block: [u8; 32], auts: &[u8], scratch: &mut [u8]) -> Option<u128>
+    pub(crate) fn check_auts(
+        &self,
+        block: [u8; 32],
+        auts: &[u8],
+        scratch: &mut [u8],
+    ) -> Option<u128>
         requires long { ⌜ 96 ≤ length (now scratch) ⌝ }
         requires auts { ⌜ length (now auts) ≡ autsSize (now self .admitted .sizes) ⌝ }
         ensures { λ r. ⌜ TellsAuts (setupOf (K·Kernel .forth) (now (self .entry))) (take (now (self .entry) .admitted .sizes .rand) block) (now (auts .entry)) r ⌝ }
@@ -63,7 +68,7 @@ impl<K: Kernel> Core<K> {
     }
 
     // Writes the AUTS of a number, at the TEMP in the scratch bytes.
-    pub fn write_auts(&self, number: u128, rand: &[u8], out: &mut [u8], scratch: &mut [u8])
+    pub(crate) fn write_auts(&self, number: u128, rand: &[u8], out: &mut [u8], scratch: &mut [u8])
         requires room { ⌜ autsSize (now self .admitted .sizes) ≤ length (now out) ⌝ }
         requires ready { ⌜ Ready (setupOf (K·Kernel .forth) (now self)) (now rand) (now scratch) ⌝ }
         ensures { λ _. ⌜ now (out .exit) ≡ over (autsOf (setupOf (K·Kernel .forth) (now (self .entry))) (now (rand .entry)) (bytesOf (now (self .entry) .admitted .sizes .sqn) number)) (now (out .entry)) ⌝ }

@@ -20,7 +20,7 @@ use kernel::Kernel;
 
 impl<K: Kernel> Core<K> {
     // Writes the vector with a number, and answers the block of XRES.
-    pub fn write_vector(
+    pub(crate) fn write_vector(
         &self,
         number: u128,
         rand: &[u8],
@@ -57,7 +57,7 @@ impl<K: Kernel> Core<K> {
     }
 
     // Writes RES ‖ CK ‖ IK, at the TEMP in the scratch bytes.
-    pub fn write_answers(&self, rand: &[u8], out: &mut [u8], scratch: &mut [u8])
+    pub(crate) fn write_answers(&self, rand: &[u8], out: &mut [u8], scratch: &mut [u8])
         requires room { ⌜ answersSize (now self .admitted .sizes) ≤ length (now out) ⌝ }
         requires ready { ⌜ Ready (setupOf (K·Kernel .forth) (now self)) (now rand) (now scratch) ⌝ }
         ensures { λ _. ⌜ now (out .exit) ≡ over (answersOf (setupOf (K·Kernel .forth) (now (self .entry))) (now (rand .entry))) (now (out .entry)) ⌝ }

@@ -23,7 +23,7 @@ pub fn read_message<'a>(admitted: Admitted, bytes: &'a [u8]) -> Result<Message<'
 }
 
 // The parts of an AUTN: the masked number, the AMF and MAC-A.
-pub fn split_autn<'a>(admitted: Admitted, bytes: &'a [u8]) -> ChallengeToken<'a>
+pub(crate) fn split_autn<'a>(admitted: Admitted, bytes: &'a [u8]) -> ChallengeToken<'a>
     requires { ⌜ length (now bytes) ≡ autnSize (admitted .sizes) ⌝ }
     ensures { λ r. ⌜ AutnParts (admitted .sizes) (bytes .entry) r ⌝ }
 {
@@ -36,7 +36,7 @@ pub fn split_autn<'a>(admitted: Admitted, bytes: &'a [u8]) -> ChallengeToken<'a>
 }
 
 // The parts of an AUTS: the masked number and MAC-S.
-pub fn split_auts<'a>(admitted: Admitted, bytes: &'a [u8]) -> ResyncToken<'a>
+pub(crate) fn split_auts<'a>(admitted: Admitted, bytes: &'a [u8]) -> ResyncToken<'a>
     requires { ⌜ length (now bytes) ≡ autsSize (admitted .sizes) ⌝ }
     ensures { λ r. ⌜ AutsParts (admitted .sizes) (bytes .entry) r ⌝ }
 {
