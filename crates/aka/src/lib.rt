@@ -1,4 +1,6 @@
 // Authentication and key agreement (3GPP TS 33.102) over Milenage-256: the network's end and the card's.
+#![tactic(auto)]
+
 mod bytes;
 mod card;
 mod core;

@@ -1,4 +1,6 @@
 // The bench: every published value against what the exported calls make of it.
+#![tactic(auto)]
+
 use anyhow::anyhow;
 use cases::{function_tests_of, kernel_cases_of};
 use published::Tally;

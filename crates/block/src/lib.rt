@@ -1,4 +1,6 @@
 // Byte strings, numbers, refusals and the guard over scratch bytes.
+#![tactic(auto)]
+
 mod bytes;
 mod laws;
 mod numbers;

@@ -1,4 +1,6 @@
 // Published cases, read from their print and compared through exported calls.
+#![tactic(auto)]
+
 mod fault;
 mod function_case;
 mod function_test;

@@ -1,4 +1,6 @@
 // A client of the library that brings a kernel of its own, and runs both ends on it.
+#![tactic(auto)]
+
 mod complement;
 
 use aka::{CardEnd, NetworkEnd, ResyncMask, Sizes, Ticket};

@@ -1,4 +1,6 @@
 // Drives a pair of ends by a technician's choices, and hands over the log.
+#![tactic(auto)]
+
 mod calls;
 mod opened;
 mod pair;

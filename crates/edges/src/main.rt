@@ -1,4 +1,6 @@
 // Edge cases of every call, through exported calls: each number of a refusal, and of two grounds the smaller.
+#![tactic(auto)]
+
 mod challenges;
 mod functions;
 mod opening;

@@ -1,4 +1,6 @@
 // Kernels: keyed permutations of blocks of 32 bytes, and layers over them.
+#![tactic(auto)]
+
 mod chained;
 mod trip;
 mod whitened;

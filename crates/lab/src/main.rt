@@ -1,4 +1,6 @@
 // The lab: the kernel against its published cases, a block forth and back through layers, then one case of the functions block by block.
+#![tactic(auto)]
+
 mod follower;
 mod function_case;
 mod kernel_cases;

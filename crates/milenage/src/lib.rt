@@ -1,4 +1,6 @@
 // The functions f1 to f5** of Milenage-256 (3GPP TS 35.235), over any kernel.
+#![tactic(auto)]
+
 mod laws;
 mod opc;
 mod question;

@@ -1,4 +1,6 @@
 // Published cases: bytes in print, lines of data, and the comparison with what was computed.
+#![tactic(auto)]
+
 mod compare;
 mod hex;
 mod lines;

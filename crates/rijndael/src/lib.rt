@@ -1,4 +1,6 @@
 // Rijndael with blocks and keys of 256 bits.
+#![tactic(auto)]
+
 mod as_kernel;
 mod cipher;
 mod rijndael;

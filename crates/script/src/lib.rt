@@ -1,4 +1,6 @@
 // The technician's script: lines that set up a pair, and lines that are steps.
+#![tactic(auto)]
+
 mod digits;
 mod fields;
 mod orders;

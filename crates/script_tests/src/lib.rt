@@ -1,4 +1,6 @@
 // Tests of the reading of scripts.
+#![tactic(auto)]
+
 #[cfg(test)]
 mod tests {
     use script::{Fault, Order, parse, spelled_bytes};

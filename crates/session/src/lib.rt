@@ -1,4 +1,6 @@
 // What holds of the log of every session of a pair.
+#![tactic(auto)]
+
 ghost use Rattle.session.specs.Laws.{EverySessionShows, TokensTellTheirNumbers};
 ghost use Rattle.session.specs.Worked.{WorkedRun};
 

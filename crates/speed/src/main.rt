@@ -1,6 +1,8 @@
 // Times the kernel and the ends, as many times as the first argument says: forth in a chain, back in a chain,
 // challenges, and the receives that accept them.
 // The blocks go to standard output, what the ends made and the times to standard error.
+#![tactic(auto)]
+
 mod ends;
 
 use anyhow::anyhow;
