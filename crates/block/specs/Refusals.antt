@@ -56,7 +56,7 @@ abbrev pub first : List Ground → ℕ
 first [] = 0
 first (g ∷ gs) = cond g.holds g.number (first gs)
 
--- What a call answers whose grounds come to `ground`: a value that meets P exactly when there is no ground, else the refusal of that number.
+-- What a call answers whose grounds come to n: a value that meets P exactly when there is no ground, else the refusal of that number.
 abbrev pub Answers : {A : Type 0} → ℕ → Result A Refusal → (A → Type 0) → Type 0
-Answers ground (Ok a) P = (ground ≡ 0) × P a
-Answers ground (Err e) P = number e ≡ ground
+Answers n (Ok a) P = (n ≡ 0) × P a
+Answers n (Err e) P = number e ≡ n

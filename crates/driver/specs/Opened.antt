@@ -33,9 +33,9 @@ one_key_ground key opc constants z network_number card_number = first ((1 when d
 
 -- What a run answers: a log that meets P, if there is no ground; the refusal of the ground; or that there was no memory, if there is no ground.
 abbrev pub Answers : {A : Type 0} → ℕ → Result A Stopped → (A → Type 0) → Type 0
-Answers ground (Ok log) P = (ground ≡ 0) × P log
-Answers ground (Err (Refused e)) P = number e ≡ ground
-Answers ground (Err Memory) P = ground ≡ 0
+Answers n (Ok log) P = (n ≡ 0) × P log
+Answers n (Err (Refused e)) P = number e ≡ n
+Answers n (Err Memory) P = n ≡ 0
 
 -- the pair of two ends that were just opened with their numbers
 abbrev pub fresh_pair : List ℕ → List ℕ → Pair

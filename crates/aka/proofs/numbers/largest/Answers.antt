@@ -2,11 +2,11 @@ use Rattle.std.proofs.Common.{arith}
 use Rattle.aka.proofs.Stepping.{power_below, power_more}
 use Rattle.aka.proofs.numbers.largest.Goals as goal
 
-pub overflow-mul-n : goal.overflow-mul-n
-overflow-mul-n c = omega (arith, power_below c.loop-i.-i)
+pub overflow_mul-n : goal.overflow_mul-n
+overflow_mul-n c = omega (arith, power_below c.loop-i.-i)
 
-pub overflow-add-n : goal.overflow-add-n
-overflow-add-n c = omega (arith, power_below c.loop-i.-i)
+pub overflow_add-n : goal.overflow_add-n
+overflow_add-n c = omega (arith, power_below c.loop-i.-i)
 
 pub loop-i-preserved : goal.loop-i-preserved
 loop-i-preserved c = omega (arith, power_more c.loop-i.-i)

@@ -10,5 +10,5 @@ returns c =
     let k : at + 32 - at ≡ 32 = omega arith in
     let l : at ≤ length xs = search rules in
     let n : length ys ≡ 32 = search rules in
-    let w = c.copy-from-slice.ensures.after in
+    let w = c.copy_from_slice.ensures.after in
     record { here = rw (k, w) (put_here at xs ys l n); before = λ j h. rw (k, w) (put_before at xs ys l j h) }

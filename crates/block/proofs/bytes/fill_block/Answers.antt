@@ -8,5 +8,5 @@ returns c =
     let x : List ℕ = c.args.bytes.now in
     let n : ℕ = c.min-n.result in
     let k : n - 0 ≡ min (length x) 32 = omega (arith, c.min-n.ensures) in
-    let w = c.copy-from-slice.ensures.after in
+    let w = c.copy_from_slice.ensures.after in
     rw (w, k) (filled_front x)

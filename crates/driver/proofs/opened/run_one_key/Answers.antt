@@ -10,7 +10,7 @@ use Rattle.driver.proofs.opened.run_one_key.Goals as goal
 pub returns-in-Err : goal.returns-in-Err
 returns-in-Err g c =
     c.in-Err.ensures
-    ∙ Opening.key_refused (differs c.args.key.now 32) (pair_ground c.args.opc.now c.args.constants.now c.args.sizes c.args.network-number.now c.args.card-number.now)
+    ∙ Opening.key_refused (differs c.args.key.now 32) (pair_ground c.args.opc.now c.args.constants.now c.args.sizes c.args.network_number.now c.args.card_number.now)
     (subst (λ (n : ℕ). 0 < n) c.in-Err.ensures (Opening.number_pos c.in-Err.e))
 
 pub returns : goal.returns
@@ -18,12 +18,12 @@ returns g c =
     let opc = c.args.opc.now in
     let constants = c.args.constants.now in
     let z = c.args.sizes in
-    let n : List ℕ = c.args.network-number.now in
-    let m : List ℕ = c.args.card-number.now in
+    let n : List ℕ = c.args.network_number.now in
+    let m : List ℕ = c.args.card_number.now in
     let key : List ℕ = c.args.key.now in
-    Opening.answers_weaker c.run-pair.result (pair_ground opc constants z n m) (one_key_ground key opc constants z n m) _ _
+    Opening.answers_weaker c.run_pair.result (pair_ground opc constants z n m) (one_key_ground key opc constants z n m) _ _
     (Opening.key_fits (differs key 32) (pair_ground opc constants z n m) c.in-Ok.ensures.0)
     (λ log h. Opening.ran_alike g.T.Technician.chooses (encrypt c.in-Ok.kernel.keys) (encrypt c.in-Ok-new.kernel.keys) (encrypt (round_keys key)) opc constants z
-    c.args.turns c.args.technician.now c.run-pair.new.technician (fresh_pair n m) (logged (vec_items log))
+    c.args.turns c.args.technician.now c.run_pair.new.technician (fresh_pair n m) (logged (vec_items log))
     (ap encrypt c.in-Ok.ensures.1) (ap encrypt c.in-Ok-new.ensures.1) h)
-    c.run-pair.ensures
+    c.run_pair.ensures

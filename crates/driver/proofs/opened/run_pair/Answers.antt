@@ -11,7 +11,7 @@ use Rattle.driver.proofs.opened.run_pair.Goals as goal
 pub returns-in-Err : goal.returns-in-Err
 returns-in-Err g c =
     c.in-Err.ensures
-    ∙ Opening.first_refused c.args.opc.now c.args.constants.now c.args.sizes c.args.network-number.now c.args.card-number.now
+    ∙ Opening.first_refused c.args.opc.now c.args.constants.now c.args.sizes c.args.network_number.now c.args.card_number.now
     (subst (λ (n : ℕ). 0 < n) c.in-Err.ensures (Opening.number_pos c.in-Err.e))
 
 pub returns-in-Ok-drive : goal.returns-in-Ok-drive
@@ -19,18 +19,18 @@ returns-in-Ok-drive g c =
     let opc = c.args.opc.now in
     let constants = c.args.constants.now in
     let z = c.args.sizes in
-    let n : List ℕ = c.args.network-number.now in
-    let m : List ℕ = c.args.card-number.now in
+    let n : List ℕ = c.args.network_number.now in
+    let m : List ℕ = c.args.card_number.now in
     let a = c.in-Ok.ensures in
     let b = c.in-Ok-open.ensures in
-    let f : List ℕ → List ℕ = g.K.Kernel.forth c.args.network-kernel in
-    let h : List ℕ → List ℕ = g.L.Kernel.forth c.args.card-kernel in (
+    let f : List ℕ → List ℕ = g.K.Kernel.forth c.args.network_kernel in
+    let h : List ℕ → List ℕ = g.L.Kernel.forth c.args.card_kernel in (
       sym (Opening.second_refused opc constants z n m a.0) ∙ b.0,
       Opening.ran g.T.Technician.chooses (handed_in f opc constants z) (handed_in h opc constants z)
           (network_setup g.K.Kernel.forth c.in-Ok.end) (card_setup g.L.Kernel.forth c.in-Ok-open.end) c.args.turns c.args.technician.now c.drive.new.technician
           (fresh_pair n m) (pair_of c.in-Ok.end c.in-Ok-open.end) (pair_of c.drive.new.network c.drive.new.card) (logged (vec_items c.in-Ok-drive.log)) (Agree f h)
           a.1.0 b.1.0 (ap₂ (λ (x : Network) (y : List ℕ). pair_at x y) a.1.1 b.1.1)
           (Opening.agree_alike f h opc constants z)
-          (Opening.opened_fresh f h opc constants z n m (Opening.number_long opc constants z n m a.0) (λ i. (c.type-inv.network-number i).fits) (Opening.number_long opc constants z m n b.0) (λ i. (c.type-inv.card-number i).fits))
+          (Opening.opened_fresh f h opc constants z n m (Opening.number_long opc constants z n m a.0) (λ i. (c.type_inv.network_number i).fits) (Opening.number_long opc constants z m n b.0) (λ i. (c.type_inv.card_number i).fits))
           c.in-Ok-drive.ensures.drives,
     )

@@ -11,46 +11,46 @@ use Rattle.driver.specs.Driven.{Driven, Leads, Drove, Halted, lapses}
 use Rattle.driver.proofs.Driving
 use Rattle.driver.proofs.pair.drive.Goals as goal
 
-pub returns-in-err-done : goal.returns-in-err-done
-returns-in-err-done g c =
+pub returns-in_err-done : goal.returns-in_err-done
+returns-in_err-done g c =
     let s : Setup = network_setup g.K.Kernel.forth c.args.network.now in
     let t : Setup = card_setup g.L.Kernel.forth c.args.card.now in
     let held₀ : List ℕ = serials (vec_items c.new-tickets.result) in
-    let held : List ℕ = serials (vec_items c.perform-all-done.new.tickets) in
+    let held : List ℕ = serials (vec_items c.perform_all-done.new.tickets) in
     let log₀ : List Entry = logged (vec_items c.new-log.result) in
-    let log₁ : List Entry = logged (vec_items c.perform-all-done.new.log) in
-    let n₁ : Network = network_of c.perform-all-done.new.network in
-    let k₁ : List ℕ = card_number c.perform-all-done.new.card in
-    let led : Leads s t (pair_of c.args.network.now c.args.card.now) (log₁ ++ lapses s t (pair_at n₁ k₁) held) (pair_of c.lapse-left-left.new.network c.perform-all-done.new.card) =
-    Driving.all_leads s t (network_setup g.K.Kernel.forth c.perform-all-done.new.network) c.perform-all-done.ensures.network
-    (network_of c.args.network.now) n₁ (network_of c.lapse-left-left.new.network) (card_number c.args.card.now) k₁ held₀ held log₀ log₁
-    (ap logged c.new-log.ensures.items) c.perform-all-done.ensures.leads c.lapse-left-left.ensures.ends in
-    let e = err_from_is_err_and c.from-residual.result c.from-residual.ensures.1 in
+    let log₁ : List Entry = logged (vec_items c.perform_all-done.new.log) in
+    let n₁ : Network = network_of c.perform_all-done.new.network in
+    let k₁ : List ℕ = card_number c.perform_all-done.new.card in
+    let led : Leads s t (pair_of c.args.network.now c.args.card.now) (log₁ ++ lapses s t (pair_at n₁ k₁) held) (pair_of c.lapse_left-left.new.network c.perform_all-done.new.card) =
+    Driving.all_leads s t (network_setup g.K.Kernel.forth c.perform_all-done.new.network) c.perform_all-done.ensures.network
+    (network_of c.args.network.now) n₁ (network_of c.lapse_left-left.new.network) (card_number c.args.card.now) k₁ held₀ held log₀ log₁
+    (ap logged c.new-log.ensures.items) c.perform_all-done.ensures.leads c.lapse_left-left.ensures.ends in
+    let e = err_from_is_err_and c.from_residual.result c.from_residual.ensures.1 in
     record {
-      network = c.lapse-left-left.ensures.setup ∙ c.perform-all-done.ensures.network;
-      card = c.perform-all-done.ensures.card;
-      drives = MatchResult-from_err c.from-residual.result _ _ (ap is_err e.1) (λ _. record { entries = _; leads = led });
+      network = c.lapse_left-left.ensures.setup ∙ c.perform_all-done.ensures.network;
+      card = c.perform_all-done.ensures.card;
+      drives = MatchResult-from_err c.from_residual.result _ _ (ap is_err e.1) (λ _. record { entries = _; leads = led });
     }
 
-pub returns-in-err-left : goal.returns-in-err-left
-returns-in-err-left g c =
+pub returns-in_err-left : goal.returns-in_err-left
+returns-in_err-left g c =
     let s : Setup = network_setup g.K.Kernel.forth c.args.network.now in
     let t : Setup = card_setup g.L.Kernel.forth c.args.card.now in
     let held₀ : List ℕ = serials (vec_items c.new-tickets.result) in
-    let held : List ℕ = serials (vec_items c.perform-all-done.new.tickets) in
+    let held : List ℕ = serials (vec_items c.perform_all-done.new.tickets) in
     let log₀ : List Entry = logged (vec_items c.new-log.result) in
-    let log₁ : List Entry = logged (vec_items c.perform-all-done.new.log) in
-    let n₁ : Network = network_of c.perform-all-done.new.network in
-    let k₁ : List ℕ = card_number c.perform-all-done.new.card in
-    let led : Leads s t (pair_of c.args.network.now c.args.card.now) (log₁ ++ lapses s t (pair_at n₁ k₁) held) (pair_of c.lapse-left-left.new.network c.perform-all-done.new.card) =
-    Driving.all_leads s t (network_setup g.K.Kernel.forth c.perform-all-done.new.network) c.perform-all-done.ensures.network
-    (network_of c.args.network.now) n₁ (network_of c.lapse-left-left.new.network) (card_number c.args.card.now) k₁ held₀ held log₀ log₁
-    (ap logged c.new-log.ensures.items) c.perform-all-done.ensures.leads c.lapse-left-left.ensures.ends in
-    let e = err_from_is_err_and c.from-residual-in-err-left.result c.from-residual-in-err-left.ensures.1 in
+    let log₁ : List Entry = logged (vec_items c.perform_all-done.new.log) in
+    let n₁ : Network = network_of c.perform_all-done.new.network in
+    let k₁ : List ℕ = card_number c.perform_all-done.new.card in
+    let led : Leads s t (pair_of c.args.network.now c.args.card.now) (log₁ ++ lapses s t (pair_at n₁ k₁) held) (pair_of c.lapse_left-left.new.network c.perform_all-done.new.card) =
+    Driving.all_leads s t (network_setup g.K.Kernel.forth c.perform_all-done.new.network) c.perform_all-done.ensures.network
+    (network_of c.args.network.now) n₁ (network_of c.lapse_left-left.new.network) (card_number c.args.card.now) k₁ held₀ held log₀ log₁
+    (ap logged c.new-log.ensures.items) c.perform_all-done.ensures.leads c.lapse_left-left.ensures.ends in
+    let e = err_from_is_err_and c.from_residual-in_err-left.result c.from_residual-in_err-left.ensures.1 in
     record {
-      network = c.lapse-left-left.ensures.setup ∙ c.perform-all-done.ensures.network;
-      card = c.perform-all-done.ensures.card;
-      drives = MatchResult-from_err c.from-residual-in-err-left.result _ _ (ap is_err e.1) (λ _. record { entries = _; leads = led });
+      network = c.lapse_left-left.ensures.setup ∙ c.perform_all-done.ensures.network;
+      card = c.perform_all-done.ensures.card;
+      drives = MatchResult-from_err c.from_residual-in_err-left.result _ _ (ap is_err e.1) (λ _. record { entries = _; leads = led });
     }
 
 pub returns : goal.returns
@@ -58,22 +58,22 @@ returns g c =
     let s : Setup = network_setup g.K.Kernel.forth c.args.network.now in
     let t : Setup = card_setup g.L.Kernel.forth c.args.card.now in
     let held₀ : List ℕ = serials (vec_items c.new-tickets.result) in
-    let held : List ℕ = serials (vec_items c.perform-all-done.new.tickets) in
+    let held : List ℕ = serials (vec_items c.perform_all-done.new.tickets) in
     let log₀ : List Entry = logged (vec_items c.new-log.result) in
-    let log₁ : List Entry = logged (vec_items c.perform-all-done.new.log) in
-    let n₁ : Network = network_of c.perform-all-done.new.network in
-    let k₁ : List ℕ = card_number c.perform-all-done.new.card in
-    let led : Leads s t (pair_of c.args.network.now c.args.card.now) (log₁ ++ lapses s t (pair_at n₁ k₁) held) (pair_of c.lapse-left-left.new.network c.perform-all-done.new.card) =
-    Driving.all_leads s t (network_setup g.K.Kernel.forth c.perform-all-done.new.network) c.perform-all-done.ensures.network
-    (network_of c.args.network.now) n₁ (network_of c.lapse-left-left.new.network) (card_number c.args.card.now) k₁ held₀ held log₀ log₁
-    (ap logged c.new-log.ensures.items) c.perform-all-done.ensures.leads c.lapse-left-left.ensures.ends in
+    let log₁ : List Entry = logged (vec_items c.perform_all-done.new.log) in
+    let n₁ : Network = network_of c.perform_all-done.new.network in
+    let k₁ : List ℕ = card_number c.perform_all-done.new.card in
+    let led : Leads s t (pair_of c.args.network.now c.args.card.now) (log₁ ++ lapses s t (pair_at n₁ k₁) held) (pair_of c.lapse_left-left.new.network c.perform_all-done.new.card) =
+    Driving.all_leads s t (network_setup g.K.Kernel.forth c.perform_all-done.new.network) c.perform_all-done.ensures.network
+    (network_of c.args.network.now) n₁ (network_of c.lapse_left-left.new.network) (card_number c.args.card.now) k₁ held₀ held log₀ log₁
+    (ap logged c.new-log.ensures.items) c.perform_all-done.ensures.leads c.lapse_left-left.ensures.ends in
     let p : Pair = pair_of c.args.network.now c.args.card.now in
-    let q : Pair = pair_of c.lapse-left-left.new.network c.perform-all-done.new.card in
-    let log : List Entry = logged (vec_items c.lapse-left-left.new.log) in
+    let q : Pair = pair_of c.lapse_left-left.new.network c.perform_all-done.new.card in
+    let log : List Entry = logged (vec_items c.lapse_left-left.new.log) in
     let noted : log₁ ++ lapses s t (pair_at n₁ k₁) held ≡ log =
-    Driving.all_noted s t (network_setup g.K.Kernel.forth c.perform-all-done.new.network) c.perform-all-done.ensures.network
-    (network_of c.args.network.now) n₁ (network_of c.lapse-left-left.new.network) (card_number c.args.card.now) k₁ held₀ held log₀ log₁
-    (ap logged c.new-log.ensures.items) log c.in-ok-left.ensures.notes in
+    Driving.all_noted s t (network_setup g.K.Kernel.forth c.perform_all-done.new.network) c.perform_all-done.ensures.network
+    (network_of c.args.network.now) n₁ (network_of c.lapse_left-left.new.network) (card_number c.args.card.now) k₁ held₀ held log₀ log₁
+    (ap logged c.new-log.ensures.items) log c.in_ok-left.ensures.notes in
     let leads : Leads s t p log q = subst (λ (l : List Entry). Leads s t p l q) noted led in
     let k = c.args.network.now.core.kernel in
     let undo : Undo s.forth (g.K.Kernel.back k) =
@@ -84,16 +84,16 @@ returns g c =
       forth_back = g.met.K.Kernel.forth_back k;
     } in
     record {
-      network = c.lapse-left-left.ensures.setup ∙ c.perform-all-done.ensures.network;
-      card = c.perform-all-done.ensures.card;
+      network = c.lapse_left-left.ensures.setup ∙ c.perform_all-done.ensures.network;
+      card = c.perform_all-done.ensures.card;
       drives = record {
         driven =
-            subst (λ (l : List Entry). Driven g.T.Technician.chooses s t c.args.turns c.args.technician.now p [] [] c.perform-all-done.new.technician l) noted
-            (Driving.all_driven s t (network_setup g.K.Kernel.forth c.perform-all-done.new.network) c.perform-all-done.ensures.network
-            (network_of c.args.network.now) n₁ (network_of c.lapse-left-left.new.network) (card_number c.args.card.now) k₁ held₀ held log₀ log₁
-            (ap logged c.new-log.ensures.items) g.T.Technician.chooses c.args.turns c.args.technician.now c.perform-all-done.new.technician _
-            (ap serials c.new-tickets.ensures.items) c.in-ok-done.ensures.drives);
+            subst (λ (l : List Entry). Driven g.T.Technician.chooses s t c.args.turns c.args.technician.now p [] [] c.perform_all-done.new.technician l) noted
+            (Driving.all_driven s t (network_setup g.K.Kernel.forth c.perform_all-done.new.network) c.perform_all-done.ensures.network
+            (network_of c.args.network.now) n₁ (network_of c.lapse_left-left.new.network) (card_number c.args.card.now) k₁ held₀ held log₀ log₁
+            (ap logged c.new-log.ensures.items) g.T.Technician.chooses c.args.turns c.args.technician.now c.perform_all-done.new.technician _
+            (ap serials c.new-tickets.ensures.items) c.in_ok-done.ensures.drives);
         leads = leads;
-        shows = λ fresh alike. every_session_shows s t (g.K.Kernel.back k) p log undo c.is-sound.ensures alike fresh leads.session;
+        shows = λ fresh alike. every_session_shows s t (g.K.Kernel.back k) p log undo c.is_sound.ensures alike fresh leads.session;
       };
     }

@@ -13,7 +13,7 @@ use Rattle.driver.proofs.pair.note_lapse.Goals.{in-Ok, in-Err}
 
 pub returns : goal.returns
 returns g c =
-    let made = c.lapse-ticket-answer.ensures.answers in
+    let made = c.lapse_ticket-answer.ensures.answers in
     let log = vec_items c.args.log.now in
     let more = vec_items c.push.new.self in
     let n : Noted = c.noted.result in
@@ -27,7 +27,7 @@ returns g c =
     (ap vec_items c.noted.ensures.answer.1 ∙ made.wrote)
     (ap vec_items c.noted.ensures.answer.2 ∙ made.wrote_auts)) in
     record {
-      setup = c.lapse-ticket-answer.ensures.setup;
+      setup = c.lapse_ticket-answer.ensures.setup;
       lapses = record {
         left = made.left;
         notes =

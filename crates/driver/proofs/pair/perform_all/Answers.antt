@@ -21,7 +21,7 @@ returns-in-None g c =
     let held : List ℕ = serials (vec_items c.loop-turn.tickets) in
     let log : List Entry = logged (vec_items c.loop-turn.log) in
     let chosen : g.T.Technician.chooses c.loop-turn.technician log None c.next.new.self =
-    subst (λ (o : Option Step). g.T.Technician.chooses c.loop-turn.technician log (choice_of o) c.next.new.self) c.in-None.is c.in-ok-step.ensures in
+    subst (λ (o : Option Step). g.T.Technician.chooses c.loop-turn.technician log (choice_of o) c.next.new.self) c.in-None.is c.in_ok-step.ensures in
     let inv = c.loop-turn.invariant in
     record {
       network = inv.0;
@@ -44,12 +44,12 @@ loop-turn-preserved g c =
     let more : List Entry = logged (vec_items c.perform.new.log) in
     let call : Call = call_of c.in-Some.step in
     let chosen : g.T.Technician.chooses c.loop-turn.technician log (Some call) c.next.new.self =
-    subst (λ (o : Option Step). g.T.Technician.chooses c.loop-turn.technician log (choice_of o) c.next.new.self) c.in-Some.is c.in-ok-step.ensures in
+    subst (λ (o : Option Step). g.T.Technician.chooses c.loop-turn.technician log (choice_of o) c.next.new.self) c.in-Some.is c.in_ok-step.ensures in
     let inv = c.loop-turn.invariant in
     let turned : Turned s t p held (turn s t p held call) q behind log more =
     subst (λ (x : Setup). Turned s x p held (turn s x p held call) q behind log more) inv.1
     (subst (λ (x : Setup). Turned x (card_setup g.L.Kernel.forth c.loop-turn.card) p held (turn x (card_setup g.L.Kernel.forth c.loop-turn.card) p held call) q behind log more) inv.0
-    c.in-ok-perform.ensures.turns) in (
+    c.in_ok-perform.ensures.turns) in (
       c.perform.ensures.network ∙ inv.0,
       c.perform.ensures.card ∙ inv.1,
       (λ last final d. inv.2 last final

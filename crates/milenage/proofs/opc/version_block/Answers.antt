@@ -10,7 +10,7 @@ returns c =
     let x : List ℕ = c.args.name.now in
     let k : 1 + length x - 1 ≡ length x = omega arith in
     let d = drop-replicate {X = ℕ} (length x) 31 0 in
-    let w = c.copy-from-slice.ensures.after in
+    let w = c.copy_from_slice.ensures.after in
     let m : 32 - suc (length x) ≡ 31 - length x = omega arith in
     let f = filled_zeros (1 ∷ x) (omega arith) in
     rw (w, k, f, m) (ap (λ (t : List ℕ). 1 ∷ (x ++ t)) d)

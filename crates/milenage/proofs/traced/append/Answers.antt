@@ -6,5 +6,5 @@ pub returns : goal.returns
 returns c = λ v o e l.
     let k : (c.args.at + length c.args.part.now) - c.args.at ≡ length c.args.part.now = omega arith in
     let m = over_more v o c.args.part.now in
-    let w = c.copy-from-slice.ensures.after in
+    let w = c.copy_from_slice.ensures.after in
     rw (k, w, e, sym l) m

@@ -19,9 +19,9 @@ returns g c = λ constants q e.
     let ni : length i ≡ 32 = search rules in
     let nx : length x ≡ 64 = omega (arith, length-append (block_at 32 s) (block_at 64 s), length_block_at 32 s (omega arith), length_block_at 64 s (omega arith)) in
     let ny : length y ≡ 64 = omega (arith, length-append (block_at 32 s') (block_at 64 s'), length_block_at 32 s' (omega arith), length_block_at 64 s' (omega arith)) in
-    let h₁ = c.append-run.ensures [] o refl refl in
+    let h₁ = c.append_run.ensures [] o refl refl in
     let h₂ = c.append.ensures x o h₁ nx in
-    let h₃ = c.append-run-2.ensures (x ++ i) o h₂ (omega (arith, length-append x i)) in
+    let h₃ = c.append_run-2.ensures (x ++ i) o h₂ (omega (arith, length-append x i)) in
     let h₄ = c.append-2.ensures (x ++ i ++ y) o h₃ (omega (arith, length-append x i, length-append (x ++ i) y)) in
     h₄ ∙ ap (λ (t : List ℕ). over t o)
     (trace_laid (keyed (g.K.Kernel.forth c.args.kernel.now) c.args.opc constants) c.args.rand.now q

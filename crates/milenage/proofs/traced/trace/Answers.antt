@@ -26,7 +26,7 @@ returns g c =
       wiped = search rules;
       traced = (
         rw b c.in-Ok.ensures.0,
-        c.lay-blocks.ensures c.args.constants.now q
-            (c.in-block.ensures ∙ told_input c.args.constants.now c.in-Ok.question q c.in-Ok.ensures.1),
+        c.lay_blocks.ensures c.args.constants.now q
+            (c.in_block.ensures ∙ told_input c.args.constants.now c.in-Ok.question q c.in-Ok.ensures.1),
       );
     }

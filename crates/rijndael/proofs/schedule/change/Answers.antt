@@ -14,8 +14,8 @@ returns-in-4 c =
     let t : eqb (c.args.i % 8) 0 ≡ false = grind (arith, nat_tests) in
     let u : eqb (c.args.i % 8) 4 ≡ true = grind (arith, nat_tests) in rw (t, u) (cc)
 
-pub returns-in-default : goal.returns-in-default
+pub returns-in_default : goal.returns-in_default
 unfolding change
-returns-in-default c =
+returns-in_default c =
     let t : eqb (c.args.i % 8) 0 ≡ false = grind (arith, nat_tests) in
     let u : eqb (c.args.i % 8) 4 ≡ false = grind (arith, nat_tests) in rw (t, u) (cc)

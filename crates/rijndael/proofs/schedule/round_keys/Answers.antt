@@ -11,7 +11,7 @@ pub loop-i-preserved : goal.loop-i-preserved
 loop-i-preserved c =
     let lt : c.loop-i.i < length c.loop-i.keys = omega arith in (
       simp length-set c.loop-i.invariant.0,
-      simp c.key-row.ensures (fill_by_more (row c.schedule-words.result) c.loop-i.keys c.loop-i.i [] lt c.loop-i.invariant.1),
+      simp c.key_row.ensures (fill_by_more (row c.schedule-words.result) c.loop-i.keys c.loop-i.i [] lt c.loop-i.invariant.1),
     )
 
 pub returns : goal.returns

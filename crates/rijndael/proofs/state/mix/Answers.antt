@@ -4,4 +4,4 @@ use Rattle.rijndael.proofs.state.mix.Goals as goal
 
 pub returns : goal.returns
 unfolding add
-returns c = simp (c.combine.ensures, c.add.ensures, c.double-state-two.ensures) (multiples_mixed c.args.s)
+returns c = simp (c.combine.ensures, c.add.ensures, c.double_state-two.ensures) (multiples_mixed c.args.s)

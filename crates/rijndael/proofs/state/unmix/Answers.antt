@@ -7,14 +7,14 @@ unfolding add
 returns c =
     simp (
       c.combine.ensures,
-      c.add-by-0e.ensures,
-      c.add-by-0b.ensures,
-      c.add-by-0d.ensures,
-      c.add-by-09.ensures,
+      c.add-by_0e.ensures,
+      c.add-by_0b.ensures,
+      c.add-by_0d.ensures,
+      c.add-by_09.ensures,
       c.add.ensures,
       c.add-2.ensures,
       c.add-3.ensures,
-      c.double-state-eight.ensures,
-      c.double-state-four.ensures,
-      c.double-state-two.ensures,
+      c.double_state-eight.ensures,
+      c.double_state-four.ensures,
+      c.double_state-two.ensures,
     ) (multiples_unmixed c.args.s)

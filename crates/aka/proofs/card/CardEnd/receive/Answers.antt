@@ -63,7 +63,7 @@ returns-then-number-self g c =
     record {
       wiped = search rules;
       setup = refl;
-      shows = shows_accepted s own _ r u (length o) (length b) t o c.write-answers.new.out b k h.0 (q ∙ lt-ltb e.number c.in-Some.number c.if-number-self.true) c.write-answers.ensures h.1;
+      shows = shows_accepted s own _ r u (length o) (length b) t o c.write_answers.new.out b k h.0 (q ∙ lt-ltb e.number c.in-Some.number c.if-number-self.true) c.write_answers.ensures h.1;
     }
 
 pub returns : goal.returns
@@ -84,5 +84,5 @@ returns g c =
     record {
       wiped = search rules;
       setup = refl;
-      shows = shows_behind s own r u (length o) (length b) t o b c.write-auts.new.out k h.0 (q ∙ le-ltb e.number c.in-Some.number c.if-number-self.false) c.write-auts.ensures;
+      shows = shows_behind s own r u (length o) (length b) t o b c.write_auts.new.out k h.0 (q ∙ le-ltb e.number c.in-Some.number c.if-number-self.false) c.write_auts.ensures;
     }

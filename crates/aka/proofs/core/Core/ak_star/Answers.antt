@@ -22,7 +22,7 @@ output-requires-in-F5StarStar g c =
     let a : Admitted = c.args.self.now.admitted in
     let n : ℕ = length c.args.rand.now in
     let k : ℕ = c.sizes-s.result.ak in
-    let m : ℕ = length c.args.mac-s.now in
+    let m : ℕ = length c.args.mac_s.now in
     let l : n ≡ a.sizes.rand = c.requires.ready.size in
     let j : m ≡ a.sizes.mac = c.requires.mac in
     let e : k ≡ a.sizes.ak = ap (λ (z : Sizes). z.ak) c.sizes-s.ensures in
@@ -33,7 +33,7 @@ unfolding ak_star
 returns-in-F5Star g c =
     let s : Setup = setup_of g.K.Kernel.forth c.args.self.now in
     let r : List ℕ = c.args.rand.now in
-    let m : List ℕ = c.args.mac-s.now in
+    let m : List ℕ = c.args.mac_s.now in
     let k : ℕ = c.sizes-s.result.ak in
     let e : k ≡ s.sizes.ak = ap (λ (z : Sizes). z.ak) c.sizes-s.ensures in
     let a : s.sizes.ak ≡ s.sizes.sqn = c.args.self.now.admitted.alike in
@@ -49,7 +49,7 @@ unfolding ak_star
 returns-in-F5StarStar g c =
     let s : Setup = setup_of g.K.Kernel.forth c.args.self.now in
     let r : List ℕ = c.args.rand.now in
-    let m : List ℕ = c.args.mac-s.now in
+    let m : List ℕ = c.args.mac_s.now in
     let k : ℕ = c.sizes-s.result.ak in
     let e : k ≡ s.sizes.ak = ap (λ (z : Sizes). z.ak) c.sizes-s.ensures in
     let a : s.sizes.ak ≡ s.sizes.sqn = c.args.self.now.admitted.alike in

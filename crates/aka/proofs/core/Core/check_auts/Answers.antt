@@ -11,4 +11,4 @@ returns g c =
     let s : Setup = setup_of g.K.Kernel.forth c.args.self.now in
     let n : ℕ = c.sizes-n.result.rand in
     let e : n ≡ s.sizes.rand = ap (λ (z : Sizes). z.rand) c.sizes-n.ensures in
-    subst (λ (t : List ℕ). TellsAuts s t c.args.auts.now c.hear-auts.result) (cut_to n s.sizes.rand c.args.block e) c.hear-auts.ensures
+    subst (λ (t : List ℕ). TellsAuts s t c.args.auts.now c.hear_auts.result) (cut_to n s.sizes.rand c.args.block e) c.hear_auts.ensures

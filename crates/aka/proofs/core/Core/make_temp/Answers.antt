@@ -4,4 +4,4 @@ use Rattle.aka.proofs.core.Core.make_temp.Goals as goal
 
 pub returns : goal.returns
 unfolding temp
-returns g c = record { size = c.requires.rand; long = search rules; temp = c.put-block.ensures.here ∙ (cc) }
+returns g c = record { size = c.requires.rand; long = search rules; temp = c.put_block.ensures.here ∙ (cc) }

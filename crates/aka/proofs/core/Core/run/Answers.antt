@@ -5,5 +5,5 @@ pub returns : goal.returns
 returns g c =
     record {
       value = c.encrypt-y.ensures;
-      temp = c.put-block-2.ensures.before 0 (lit≤ tt) ∙ c.put-block.ensures.before 0 (lit≤ tt);
+      temp = c.put_block-2.ensures.before 0 (lit≤ tt) ∙ c.put_block.ensures.before 0 (lit≤ tt);
     }

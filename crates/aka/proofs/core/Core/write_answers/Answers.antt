@@ -7,5 +7,5 @@ use Rattle.aka.proofs.core.Core.write_answers.Goals as goal
 
 pub returns : goal.returns
 returns g c =
-    appends_front _ c.args.out.now c.put-answers.new.out c.put-answers.ensures.after
+    appends_front _ c.args.out.now c.put_answers.new.out c.put_answers.ensures.after
     ∙ ap (λ (v : List ℕ). over v c.args.out.now) (answers_are (setup_of g.K.Kernel.forth c.args.self.now) c.args.rand.now c.keys-keys.result c.keys-keys.ensures.value)

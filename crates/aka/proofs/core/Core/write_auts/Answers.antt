@@ -14,14 +14,14 @@ returns g c =
     let r : List ℕ = c.args.rand.now in
     let n : ℕ = c.sizes-s.result.sqn in
     let m : ℕ = c.sizes-s.result.mac in
-    let b : List ℕ = c.number-block-sqn.result in
-    let mac : List ℕ = c.mac-s-mac.result in
-    let ak : List ℕ = c.ak-star-ak.result in
+    let b : List ℕ = c.number_block-sqn.result in
+    let mac : List ℕ = c.mac_s-mac.result in
+    let ak : List ℕ = c.ak_star-ak.result in
     let e : n ≡ s.sizes.sqn = ap (λ (z : Sizes). z.sqn) c.sizes-s.ensures in
     let f : m ≡ s.sizes.mac = ap (λ (z : Sizes). z.mac) c.sizes-s.ensures in
-    let q : take n b ≡ bytes_of n c.args.number = c.number-block-sqn.ensures in
+    let q : take n b ≡ bytes_of n c.args.number = c.number_block-sqn.ensures in
     let x : take s.sizes.sqn b ≡ bytes_of s.sizes.sqn c.args.number = subst (λ (k : ℕ). take k b ≡ bytes_of k c.args.number) e q in
-    let v : take s.sizes.sqn ak ≡ ak_star s r (take (m - 0) mac) = c.ak-star-ak.ensures.value in
+    let v : take s.sizes.sqn ak ≡ ak_star s r (take (m - 0) mac) = c.ak_star-ak.ensures.value in
     let k : take s.sizes.sqn ak ≡ ak_star s r (take s.sizes.mac mac) = v ∙ ap (ak_star s r) (cut_to m s.sizes.mac mac f) in
-    c.put-auts.ensures
-    ∙ ap (λ (t : List ℕ). over t c.args.out.now) (auts_is s r (bytes_of s.sizes.sqn c.args.number) b mac ak c.xor-blocks.result x c.mac-s-mac.ensures.value k c.xor-blocks.ensures)
+    c.put_auts.ensures
+    ∙ ap (λ (t : List ℕ). over t c.args.out.now) (auts_is s r (bytes_of s.sizes.sqn c.args.number) b mac ak c.xor_blocks.result x c.mac_s-mac.ensures.value k c.xor_blocks.ensures)

@@ -9,5 +9,5 @@ returns c =
     let m : List ℕ = c.args.masked.now in
     let n : ℕ = length m in
     let k : List ℕ = take n c.args.ak in
-    let f : take n c.fill-block.result ≡ m = ap (λ (t : List ℕ). take n t) c.fill-block.ensures ∙ take_filled n m refl c.requires in
-    masked_is n c.fill-block.result c.args.ak k c.xor-blocks.result c.xor-blocks.ensures refl ∙ ap (λ (t : List ℕ). t ⊕ k) f
+    let f : take n c.fill_block.result ≡ m = ap (λ (t : List ℕ). take n t) c.fill_block.ensures ∙ take_filled n m refl c.requires in
+    masked_is n c.fill_block.result c.args.ak k c.xor_blocks.result c.xor_blocks.ensures refl ∙ ap (λ (t : List ℕ). t ⊕ k) f

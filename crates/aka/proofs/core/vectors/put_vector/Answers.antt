@@ -12,10 +12,10 @@ returns c =
     let x : List ℕ = c.args.rand.now in
     let y : List ℕ = (take z.res c.args.parts.keys.res ++ take z.ck c.args.parts.keys.ck) ++ take z.ik c.args.parts.keys.ik in
     let w : List ℕ = (take z.sqn c.args.parts.masked ++ c.args.amf.now) ++ take z.mac c.args.parts.mac in
-    let p : Appends 0 (x ++ y) o c.put-answers-b.new.out = appends_both 0 c.append-a.result x y o c.append-a.new.out c.put-answers-b.new.out c.append-a.ensures.next c.append-a.ensures.after c.put-answers-b.ensures.after in
+    let p : Appends 0 (x ++ y) o c.put_answers-b.new.out = appends_both 0 c.append-a.result x y o c.append-a.new.out c.put_answers-b.new.out c.append-a.ensures.next c.append-a.ensures.after c.put_answers-b.ensures.after in
     let l1 : length (take z.res c.args.parts.keys.res) ≡ z.res = length-take z.res c.args.parts.keys.res ∙ omega arith in
     let l2 : length (take z.ck c.args.parts.keys.ck) ≡ z.ck = length-take z.ck c.args.parts.keys.ck ∙ omega arith in
     let l3 : length (take z.ik c.args.parts.keys.ik) ≡ z.ik = length-take z.ik c.args.parts.keys.ik ∙ omega arith in
-    let l : c.put-answers-b.result ≡ 0 + length (x ++ y) = simp length-append (omega arith) in
-    appends_front ((x ++ y) ++ w) o c.put-autn.new.out
-    (appends_both 0 c.put-answers-b.result (x ++ y) w o c.put-answers-b.new.out c.put-autn.new.out l p c.put-autn.ensures)
+    let l : c.put_answers-b.result ≡ 0 + length (x ++ y) = simp length-append (omega arith) in
+    appends_front ((x ++ y) ++ w) o c.put_autn.new.out
+    (appends_both 0 c.put_answers-b.result (x ++ y) w o c.put_answers-b.new.out c.put_autn.new.out l p c.put_autn.ensures)

@@ -11,8 +11,8 @@ use Rattle.aka.proofs.Stepping.{power_below, next_bytes_of}
 use Rattle.aka.proofs.Challenged.{shows_given, shows_not_given}
 use Rattle.aka.proofs.network.NetworkEnd.challenge.Goals as goal
 
-pub overflow-add-number : goal.overflow-add-number
-overflow-add-number g c =
+pub overflow_add-number : goal.overflow_add-number
+overflow_add-number g c =
     let e = c.args.self.now in
     let p = power_below e.core.admitted.sizes.sqn e.core.admitted.sqn_high in
     let n = e.numbered in
@@ -48,12 +48,12 @@ returns g c =
     let k : challenge_ground s.sizes p.number p.given (length r) (length a) (length o) t ≡ 0 =
     ap (λ (z : Admitted). challenge_ground z.sizes (bytes_of z.sizes.sqn e.book.number) e.book.given (length r) (length a) (length o) t) (sym c.admitted.ensures) ∙ c.in-Ok.ensures.0 in
     let l : length r ≡ s.sizes.rand = grind (arith, nat_tests) in
-    let x : take s.sizes.rand c.fill-block-rand.result ≡ r =
-    ap (λ (b : List ℕ). take s.sizes.rand b) c.fill-block-rand.ensures ∙ take_filled s.sizes.rand r l e.core.admitted.rand_high in
-    let v : take s.sizes.res c.write-vector-xres.result ≡ f2 s r = c.write-vector-xres.ensures.value in
+    let x : take s.sizes.rand c.fill_block-rand.result ≡ r =
+    ap (λ (b : List ℕ). take s.sizes.rand b) c.fill_block-rand.ensures ∙ take_filled s.sizes.rand r l e.core.admitted.rand_high in
+    let v : take s.sizes.res c.write_vector-xres.result ≡ f2 s r = c.write_vector-xres.ensures.value in
     record {
       wiped = search rules;
       setup = refl;
-      shows = shows_given s p _ r a (length o) t c.issue.result.serial (bytes_of s.sizes.sqn m) o c.write-vector-xres.new.out k
-          (next_bytes_of s.sizes.sqn e.book.number e.numbered) c.issue.ensures c.write-vector-xres.ensures.after (cc);
+      shows = shows_given s p _ r a (length o) t c.issue.result.serial (bytes_of s.sizes.sqn m) o c.write_vector-xres.new.out k
+          (next_bytes_of s.sizes.sqn e.book.number e.numbered) c.issue.ensures c.write_vector-xres.ensures.after (cc);
     }

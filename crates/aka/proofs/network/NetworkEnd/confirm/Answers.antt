@@ -18,7 +18,7 @@ returns-then-close g c =
       setup = c.close.ensures.setup;
       shows = shows_confirmed (network_of e) _ c.spend.result c.args.ticket.serial c.args.res.now _ c.spend.ensures
           (c.close.ensures.told ∙ ap not c.if-close.true) c.close.ensures.left
-          (c.is-front.ensures ∙ ap (λ t. bytes_eq c.args.res.now (take t x)) n ∙ ap (bytes_eq c.args.res.now) (sym v));
+          (c.is_front.ensures ∙ ap (λ t. bytes_eq c.args.res.now (take t x)) n ∙ ap (bytes_eq c.args.res.now) (sym v));
     }
 
 pub returns-else-close : goal.returns-else-close

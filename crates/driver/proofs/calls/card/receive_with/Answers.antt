@@ -24,14 +24,14 @@ returns-in-Ok g c =
     let own : List ℕ = card_number c.args.card.now in
     let cut : vec_items c.truncate.new.self ≡ take (answers_size s.sizes) c.receive.new.answer =
     c.truncate.ensures.items
-    ∙ ap₂ (λ (k : ℕ) (l : List ℕ). take k l) (c.answers-size.ensures ∙ ap answers_size c.sizes-s.ensures)
-    (take_at c.receive.new.answer _ c.args.wrote.now.len (c.receive.auto.answer ∙ c.as-mut-slice.ensures.len)) in
+    ∙ ap₂ (λ (k : ℕ) (l : List ℕ). take k l) (c.answers_size.ensures ∙ ap answers_size c.sizes-s.ensures)
+    (take_at c.receive.new.answer _ c.args.wrote.now.len (c.receive.auto.answer ∙ c.as_mut_slice.ensures.len)) in
     record {
       setup = c.receive.ensures.setup;
-      strings = ((λ i. (c.type-inv.rand i).fits), (λ i. (c.type-inv.autn i).fits));
+      strings = ((λ i. (c.type_inv.rand i).fits), (λ i. (c.type_inv.autn i).fits));
       wrote =
-          lengths s own c.args.rand.now c.args.autn.now _ _ _ _ _ _ accepted _ _ _ c.as-mut-slice.ensures.len c.as-mut-slice-2.ensures.len c.as-mut-slice-3.ensures.len
-          (Cutting.receive_taken s c.is-sound.ensures own c.args.rand.now c.args.autn.now _ _ _ (length_bytes_of _ _) _ _ c.receive.new.answer _ _ _ _ c.in-Ok.ensures.shows cut c.clear.ensures.items);
+          lengths s own c.args.rand.now c.args.autn.now _ _ _ _ _ _ accepted _ _ _ c.as_mut_slice.ensures.len c.as_mut_slice-2.ensures.len c.as_mut_slice-3.ensures.len
+          (Cutting.receive_taken s c.is_sound.ensures own c.args.rand.now c.args.autn.now _ _ _ (length_bytes_of _ _) _ _ c.receive.new.answer _ _ _ _ c.in-Ok.ensures.shows cut c.clear.ensures.items);
     }
 
 pub returns-in-Err : goal.returns-in-Err
@@ -39,17 +39,17 @@ returns-in-Err g c =
     let s : Setup = card_setup g.K.Kernel.forth c.args.card.now in
     let own : List ℕ = card_number c.args.card.now in
     let n : ℕ = number c.in-Err.e in
-    let all : take c.args.wrote-auts.now.len (c.receive.new.auts ++ _) ≡ c.receive.new.auts =
-    take_at c.receive.new.auts _ c.args.wrote-auts.now.len (c.receive.auto.auts ∙ c.as-mut-slice-2.ensures.len) in
-    let cut : (k : ℕ) → c.auts-size.result ≡ k → vec_items c.truncate-in-Err.new.self ≡ take k c.receive.new.auts =
+    let all : take c.args.wrote_auts.now.len (c.receive.new.auts ++ _) ≡ c.receive.new.auts =
+    take_at c.receive.new.auts _ c.args.wrote_auts.now.len (c.receive.auto.auts ∙ c.as_mut_slice-2.ensures.len) in
+    let cut : (k : ℕ) → c.auts_size.result ≡ k → vec_items c.truncate-in-Err.new.self ≡ take k c.receive.new.auts =
     λ k e. c.truncate-in-Err.ensures.items ∙ ap₂ (λ (k : ℕ) (l : List ℕ). take k l) e all in
     record {
       setup = c.receive.ensures.setup;
-      strings = ((λ i. (c.type-inv.rand i).fits), (λ i. (c.type-inv.autn i).fits));
+      strings = ((λ i. (c.type_inv.rand i).fits), (λ i. (c.type_inv.autn i).fits));
       wrote =
-          lengths s own c.args.rand.now c.args.autn.now _ _ _ _ _ _ (refused n) _ _ _ c.as-mut-slice.ensures.len c.as-mut-slice-2.ensures.len c.as-mut-slice-3.ensures.len
-          (Cutting.receive_denied s c.is-sound.ensures own c.args.rand.now c.args.autn.now _ _ _ (length_bytes_of _ _) (card_number c.receive.new.self) _ c.receive.new.answer _ c.receive.new.auts _ _ n
+          lengths s own c.args.rand.now c.args.autn.now _ _ _ _ _ _ (refused n) _ _ _ c.as_mut_slice.ensures.len c.as_mut_slice-2.ensures.len c.as_mut_slice-3.ensures.len
+          (Cutting.receive_denied s c.is_sound.ensures own c.args.rand.now c.args.autn.now _ _ _ (length_bytes_of _ _) (card_number c.receive.new.self) _ c.receive.new.answer _ c.receive.new.auts _ _ n
           c.in-Err.ensures.shows c.clear-in-Err.ensures.items
-          (λ e. cut (auts_size s.sizes) (c.auts-size.ensures.behind e ∙ ap auts_size c.sizes-s.ensures))
-          (λ d. cut 0 (c.auts-size.ensures.other d)));
+          (λ e. cut (auts_size s.sizes) (c.auts_size.ensures.behind e ∙ ap auts_size c.sizes-s.ensures))
+          (λ d. cut 0 (c.auts_size.ensures.other d)));
     }

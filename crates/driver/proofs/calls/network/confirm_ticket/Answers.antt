@@ -15,6 +15,6 @@ returns g c =
     ] in
     record {
       setup = c.confirm.ensures.setup;
-      strings = λ i. (c.type-inv.res i).fits;
+      strings = λ i. (c.type_inv.res i).fits;
       answers = Cutting.silent_made _ _ c.silent.result _ c.confirm.ensures.shows (ap yield_of c.silent.ensures.0 ∙ told) c.silent.ensures.1 c.silent.ensures.2;
     }

@@ -16,9 +16,9 @@ returns g c =
     ] in
     record {
       setup = c.resync.ensures.setup;
-      strings = λ i. (c.type-inv.auts i).fits;
+      strings = λ i. (c.type_inv.auts i).fits;
       answers =
           subst (λ (n : ℕ). Made (does_resync (network_setup g.K.Kernel.forth c.args.network.now) (network_of c.args.network.now) c.args.ticket.serial c.args.auts.now n) c.silent.result (network_of c.resync.new.self))
-          c.as-mut-slice.ensures.len
+          c.as_mut_slice.ensures.len
           (Cutting.silent_made _ _ c.silent.result _ c.resync.ensures.shows (ap yield_of c.silent.ensures.0 ∙ told) c.silent.ensures.1 c.silent.ensures.2);
     }

@@ -4,5 +4,5 @@ use Rattle.rijndael.proofs.rijndael.Rijndael.new.Goals as goal
 
 pub invariant-of-result : goal.invariant-of-result
 invariant-of-result c =
-    let h : KeysAreBytes c.round-keys-keys.result =
-    simp c.round-keys-keys.ensures (round_keys_bytes c.args.key.now (λ i. (c.type-inv.key i).fits)) in (h, tt)
+    let h : KeysAreBytes c.round_keys-keys.result =
+    simp c.round_keys-keys.ensures (round_keys_bytes c.args.key.now (λ i. (c.type_inv.key i).fits)) in (h, tt)
