@@ -13,7 +13,7 @@ const ROUND_CONSTANTS: [u8; 14] = *b"\x01\x02\x04\x08\x10\x20\x40\x80\x1b\x36\x6
 
 // The first round constant is 01, and each next one is x times the last.
 pub fn round_constants_double() -> u8
-    ensures* { do ⌜ Doubling (← (⟦ROUND_CONSTANTS⟧).exit) ⌝ }
+    ensures { Doubling ROUND_CONSTANTS }
 {
     0
 }

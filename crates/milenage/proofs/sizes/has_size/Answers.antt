@@ -5,5 +5,5 @@ use Rattle.milenage.proofs.sizes.has_size.Goals as goal
 pub returns-in-Ok : goal.returns-in-Ok
 returns-in-Ok c = size_taken c.args.index c.args.size (search rules)
 
-pub returns-in-Ok·2 : goal.returns-in-Ok·2
-returns-in-Ok·2 c = size_taken c.args.index c.args.size (search rules)
+pub returns-in-Ok-2 : goal.returns-in-Ok-2
+returns-in-Ok-2 c = size_taken c.args.index c.args.size (search rules)
