@@ -3,8 +3,8 @@ use Rattle.std.proofs.Common.{◌≡◌, ℕ, Bool, List, ◌++◌, length, take
 use Rattle.std.specs.Str.{bytes_eq}
 use Rattle.block.specs.Bytes.{◌⊕◌}
 use Rattle.block.proofs.ByteLaws.{take_⊕}
-use Rattle.aka.specs.declared.core.Keys.{Keys}
-use Rattle.aka.specs.declared.core.Parts.{Parts}
+use Rattle.aka.specs.declared.shared.Keys.{Keys}
+use Rattle.aka.specs.declared.shared.Parts.{Parts}
 use Rattle.aka.specs.Setup.{Setup, f1, f5, ak_star, mac_s}
 use Rattle.aka.specs.Tokens.{autn, auts, answers, vector, autn_masked, autn_amf, autn_mac, autn_number, auts_masked, auts_mac, auts_number}
 use Rattle.aka.specs.Parts.{KeysOf, PartsOf, TellsNumber, TellsAutn, TellsAuts}

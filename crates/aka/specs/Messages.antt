@@ -19,9 +19,9 @@ pub record AutnParts (z : Sizes) (bytes : Bor (List ℕ)) (t : ChallengeToken) :
   pub masked : t.masked.now ≡ autn_masked z bytes.now
   pub amf : t.amf.now ≡ autn_amf z bytes.now
   pub mac : t.mac.now ≡ autn_mac z bytes.now
-  pub masked_place : t.masked.ptr ≡ bytes.ref_ptr
-  pub amf_place : t.amf.ptr ≡ placed bytes.ref_ptr z.sqn
-  pub mac_place : t.mac.ptr ≡ placed bytes.ref_ptr (z.sqn + 2)
+  pub masked_place : t.masked.ref_ptr ≡ bytes.ref_ptr
+  pub amf_place : t.amf.ref_ptr ≡ placed bytes.ref_ptr z.sqn
+  pub mac_place : t.mac.ref_ptr ≡ placed bytes.ref_ptr (z.sqn + 2)
   pub masked_long : length t.masked.now ≡ z.sqn
   pub amf_long : length t.amf.now ≡ 2
   pub mac_long : length t.mac.now ≡ z.mac
@@ -29,8 +29,8 @@ pub record AutnParts (z : Sizes) (bytes : Bor (List ℕ)) (t : ChallengeToken) :
 pub record AutsParts (z : Sizes) (bytes : Bor (List ℕ)) (t : ResyncToken) : Type 0 where
   pub masked : t.masked.now ≡ auts_masked z bytes.now
   pub mac : t.mac.now ≡ auts_mac z bytes.now
-  pub masked_place : t.masked.ptr ≡ bytes.ref_ptr
-  pub mac_place : t.mac.ptr ≡ placed bytes.ref_ptr z.sqn
+  pub masked_place : t.masked.ref_ptr ≡ bytes.ref_ptr
+  pub mac_place : t.mac.ref_ptr ≡ placed bytes.ref_ptr z.sqn
   pub masked_long : length t.masked.now ≡ z.sqn
   pub mac_long : length t.mac.now ≡ z.mac
 

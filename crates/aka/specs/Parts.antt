@@ -5,8 +5,8 @@ use Rattle.block.specs.Bytes.{◌⊕◌}
 use Rattle.block.specs.Numbers.{bytes_of}
 use Rattle.milenage.specs.Blocks.{temp}
 use Rattle.milenage.specs.Steps.{block_at}
-use Rattle.aka.specs.declared.core.Keys.{Keys}
-use Rattle.aka.specs.declared.core.Parts.{Parts}
+use Rattle.aka.specs.declared.shared.Keys.{Keys}
+use Rattle.aka.specs.declared.shared.Parts.{Parts}
 use Rattle.aka.specs.Setup.{Setup, keyed, f1, f2, f3, f4, f5, mac_s}
 use Rattle.aka.specs.Tokens.{autn_amf, autn_mac, autn_number, auts_mac, auts_number}
 

@@ -2,7 +2,7 @@
 use Rattle.std.specs.Prelude.{ℕ, List, take, Some, None, Option}
 use Rattle.block.specs.Numbers.{bytes_of}
 use Rattle.aka.specs.declared.sizes.Sizes.{Sizes}
-use Rattle.aka.specs.declared.core.Core.{Core}
+use Rattle.aka.specs.declared.shared.Core.{Core}
 use Rattle.aka.specs.declared.network.NetworkEnd.{NetworkEnd}
 use Rattle.aka.specs.declared.card.CardEnd.{CardEnd}
 use Rattle.aka.specs.Setup.{Setup}

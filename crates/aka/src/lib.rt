@@ -3,12 +3,12 @@
 
 mod bytes;
 mod card;
-mod core;
 mod laws;
 mod message;
 mod network;
 mod numbers;
 mod scratch;
+mod shared;
 mod sizes;
 mod ticket;
 

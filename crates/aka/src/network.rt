@@ -1,6 +1,6 @@
 ghost use Rattle.std.specs.Prelude.{◌^◌, ◌<◌};
 
-use super::core::Core;
+use super::shared::Core;
 
 mod challenge;
 mod closing;

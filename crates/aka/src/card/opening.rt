@@ -5,7 +5,7 @@ ghost use Rattle.aka.specs.Setup.{SoundSetup};
 ghost use Rattle.aka.specs.Views.{card_setup, card_number, handed_in};
 
 use super::CardEnd;
-use crate::core::Core;
+use crate::shared::Core;
 use crate::sizes::Sizes;
 use block::Refusal;
 use kernel::Kernel;

@@ -5,7 +5,7 @@ ghost use Rattle.aka.specs.Setup.{SoundSetup};
 ghost use Rattle.aka.specs.Views.{network_setup, network_of, handed_in, fresh_network};
 
 use super::{Book, NetworkEnd};
-use crate::core::Core;
+use crate::shared::Core;
 use crate::sizes::Sizes;
 use block::Refusal;
 use kernel::Kernel;

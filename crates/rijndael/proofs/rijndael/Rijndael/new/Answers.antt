@@ -2,7 +2,7 @@ use Rattle.rijndael.specs.Cipher.{KeysAreBytes}
 use Rattle.rijndael.proofs.ScheduleLaws.{round_keys_bytes}
 use Rattle.rijndael.proofs.rijndael.Rijndael.new.Goals as goal
 
-pub invariant-of-result : goal.invariant-of-result
-invariant-of-result c =
+pub invariant_of-result : goal.invariant_of-result
+invariant_of-result c =
     let h : KeysAreBytes c.round_keys-keys.result =
     simp c.round_keys-keys.ensures (round_keys_bytes c.args.key.now (λ i. (c.type_inv.key i).fits)) in (h, tt)
