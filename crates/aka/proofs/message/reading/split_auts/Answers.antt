@@ -13,8 +13,8 @@ returns c =
     record {
       masked = part_is 0 n 0 z.sqn x refl (omega arith);
       mac = rest_is n z.sqn x e;
-      masked_place = place_first c.args.bytes.ptr;
-      mac_place = place_is c.args.bytes.ptr n z.sqn e;
+      masked_place = place_first c.args.bytes.ref_ptr;
+      mac_place = place_is c.args.bytes.ref_ptr n z.sqn e;
       masked_long = part_long 0 n 0 z.sqn x refl (omega arith) (omega arith);
       mac_long = part_long n (length x) z.sqn z.mac x e (omega arith) (omega arith);
     }

@@ -5,4 +5,4 @@ use Rattle.rijndael.proofs.rijndael.Rijndael.new.Goals as goal
 pub invariant_of-result : goal.invariant_of-result
 invariant_of-result c =
     let h : KeysAreBytes c.round_keys-keys.result =
-    simp c.round_keys-keys.ensures (round_keys_bytes c.args.key.now (λ i. (c.type_inv.key i).fits)) in (h, tt)
+    simp c.round_keys-keys.ensures (round_keys_bytes c.args.key.now (λ i. (c.type_inv.key i).fits)) in record { bytes = h }
