@@ -4,6 +4,7 @@
 mod complement;
 
 use aka::{CardEnd, NetworkEnd, ResyncMask, Sizes, Ticket};
+use anyhow::anyhow;
 use block::Refusal;
 use complement::Complement;
 use milenage::standard_constants;
@@ -28,7 +29,7 @@ const SIZES: Sizes = Sizes {
 
 // A refusal, as the error that ends the program.
 fn refused(e: Refusal) -> anyhow::Error {
-    e.word().into()
+    anyhow!(e.word())
 }
 
 // Gives a ticket up, which spends it.

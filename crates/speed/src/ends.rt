@@ -1,5 +1,6 @@
 use super::KEY;
 use aka::{CardEnd, NetworkEnd, ResyncMask, Sizes};
+use anyhow::anyhow;
 use block::Refusal;
 use milenage::{derive_opc, standard_constants, standard_name};
 use rijndael::Rijndael;
@@ -39,7 +40,7 @@ pub struct Pair {
 
 // A refusal, as the error that ends the program.
 fn refused(e: Refusal) -> anyhow::Error {
-    e.word().into()
+    anyhow!(e.word())
 }
 
 fn kernel() -> anyhow::Result<Rijndael> {

@@ -27,8 +27,8 @@ returns-in-None g c =
       network = inv.0;
       card = inv.1;
       drives = inv.2 _ _
-          (subst (λ (n : ℕ). Driven g.T.Technician.chooses s t n c.loop-turn.technician p held log c.next.new.self (log ++ lapses s t p held)) (turns-left c.args.turns c.loop-turn.-turn c.loop-turn-test.true)
-          (Driving.stopped s t g.T.Technician.chooses (c.args.turns - (c.loop-turn.-turn + 1)) c.loop-turn.technician c.next.new.self p held log chosen));
+          (subst (λ (n : ℕ). Driven g.T.Technician.chooses s t n c.loop-turn.technician p held log c.next.new.self (log ++ lapses s t p held)) (turns-left c.args.turns c.loop-turn._turn c.loop-turn-test.true)
+          (Driving.stopped s t g.T.Technician.chooses (c.args.turns - (c.loop-turn._turn + 1)) c.loop-turn.technician c.next.new.self p held log chosen));
       leads = inv.3;
     }
 
@@ -53,8 +53,8 @@ loop-turn-preserved g c =
       c.perform.ensures.network ∙ inv.0,
       c.perform.ensures.card ∙ inv.1,
       (λ last final d. inv.2 last final
-          (subst (λ (n : ℕ). Driven g.T.Technician.chooses s t n c.loop-turn.technician p held log last final) (turns-left c.args.turns c.loop-turn.-turn c.loop-turn-test.true)
-          (Driving.went_on s t g.T.Technician.chooses (c.args.turns - (c.loop-turn.-turn + 1)) c.loop-turn.technician c.next.new.self last p q held behind log more final call chosen turned d))),
+          (subst (λ (n : ℕ). Driven g.T.Technician.chooses s t n c.loop-turn.technician p held log last final) (turns-left c.args.turns c.loop-turn._turn c.loop-turn-test.true)
+          (Driving.went_on s t g.T.Technician.chooses (c.args.turns - (c.loop-turn._turn + 1)) c.loop-turn.technician c.next.new.self last p q held behind log more final call chosen turned d))),
       (λ start h. Driving.leads_on s t start p q held behind (turn s t p held call) log more turned (inv.3 start h)),
     )
 
@@ -66,7 +66,7 @@ returns g c =
     let held : List ℕ = serials (vec_items c.loop-turn.tickets) in
     let log : List Entry = logged (vec_items c.loop-turn.log) in
     let inv = c.loop-turn.invariant in
-    let none : 0 ≡ c.args.turns - c.loop-turn.-turn = omega (arith, c.loop-turn-test.false) in
+    let none : 0 ≡ c.args.turns - c.loop-turn._turn = omega (arith, c.loop-turn-test.false) in
     record {
       network = inv.0;
       card = inv.1;

@@ -15,7 +15,7 @@ invariant-loop-turn g l =
     (network_setup g.K.Kernel.forth l.network ≡ s)
     × (card_setup g.L.Kernel.forth l.card ≡ t)
     × Completes s t g.T.Technician.chooses
-    (l.turns - l.-turn) l.technician (pair_of l.network l.card) (serials (vec_items l.tickets)) (logged (vec_items l.log))
+    (l.turns - l._turn) l.technician (pair_of l.network l.card) (serials (vec_items l.tickets)) (logged (vec_items l.log))
     l.turns l.initial.technician (pair_of l.initial.network l.initial.card) (serials (vec_items l.initial.tickets)) (logged (vec_items l.initial.log))
     × ((start : Pair) → Leads s t start (logged (vec_items l.initial.log)) (pair_of l.initial.network l.initial.card)
     → Leads s t start (logged (vec_items l.log)) (pair_of l.network l.card))

@@ -4,4 +4,4 @@ use Rattle.cases.proofs.function_case.FunctionCase.compare.Given as goal
 
 -- each value so far is counted
 abbrev pub invariant-loop-value : goal.invariant-loop-value
-invariant-loop-value l = l.tally.compared ≡ more (length l.yielded) 0
+invariant-loop-value l = l.tally.compared ≡ more l.value-index 0

@@ -4,4 +4,4 @@ use Rattle.cases.proofs.function_test.FunctionTest.compare_opc.Given as goal
 
 -- each block so far is counted
 abbrev pub invariant-loop-value : goal.invariant-loop-value
-invariant-loop-value l = l.tally.compared ≡ more (length l.yielded) 0
+invariant-loop-value l = l.tally.compared ≡ more l.value-index 0
