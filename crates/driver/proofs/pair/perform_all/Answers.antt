@@ -49,7 +49,7 @@ loop-turn-preserved g c =
     let turned : Turned s t p held (turn s t p held call) q behind log more =
     subst (λ (x : Setup). Turned s x p held (turn s x p held call) q behind log more) inv.1
     (subst (λ (x : Setup). Turned x (card_setup g.L.Kernel.forth c.loop-turn.card) p held (turn x (card_setup g.L.Kernel.forth c.loop-turn.card) p held call) q behind log more) inv.0
-    c.in_ok-perform.ensures.turns) in (
+    c.in_ok-perform-in-Some.ensures.turns) in (
       c.perform.ensures.network ∙ inv.0,
       c.perform.ensures.card ∙ inv.1,
       (λ last final d. inv.2 last final
