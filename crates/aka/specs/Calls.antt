@@ -1,14 +1,13 @@
 -- The six calls of a pair: from an end's state and a call to what is done. Of a buffer its length counts, of a ticket its serial.
-use Rattle.std.specs.Prelude.{ℕ, ◌+◌, Bool, cond, not, ◌||◌, List, [], ◌∷◌, ◌++◌, length, Some, None, ◌==◌, nat_lt}
+use Rattle.std.specs.Prelude.{ℕ, ◌+◌, Bool, cond, not, ◌||◌, List, [], ◌∷◌, length, Some, ◌==◌, nat_lt}
 use Rattle.std.specs.Str.{bytes_eq}
-use Rattle.block.specs.Refusals.{Ground, ◌when◌, first}
-use Rattle.milenage.specs.Question.{Question}
+use Rattle.block.specs.Refusals.{◌when◌}
 use Rattle.milenage.specs.Blocks.{trace_of}
 use Rattle.milenage.specs.Grounds.{question_grounds}
 use Rattle.aka.specs.Numbers.{next_number, all_ff, exceeds, larger}
 use Rattle.aka.specs.Setup.{Setup, keyed, f1, f2, mac_s}
-use Rattle.aka.specs.Tokens.{autn, auts, answers, vector, answers_size, autn_size, auts_size, vector_size, autn_amf, autn_mac, auts_mac, autn_number, auts_number}
-use Rattle.aka.specs.States.{Network, Yield, issued, confirmed, raised, kept, lapsed, accepted, traced, refused, Done, silent, unless, stale, pending_rand, pending_xres, spent}
+use Rattle.aka.specs.Tokens.{auts, answers, vector, answers_size, autn_size, auts_size, vector_size, autn_amf, autn_mac, auts_mac, autn_number, auts_number}
+use Rattle.aka.specs.States.{Network, issued, confirmed, raised, kept, lapsed, accepted, traced, refused, Done, silent, unless, stale, pending_rand, pending_xres, spent}
 
 -- a string that has not this length
 abbrev pub differs : List ℕ → ℕ → Bool

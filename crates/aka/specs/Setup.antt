@@ -1,7 +1,6 @@
 -- What an end is set up with, and the functions that it asks.
 use Rattle.std.specs.Prelude.{◌≡◌, ℕ, ◌≤◌, List, [], ◌∷◌, ◌++◌, length}
 use Rattle.block.specs.Bytes.{AreBytes, IsBlock}
-use Rattle.milenage.specs.Question.{Question}
 use Rattle.milenage.specs.Blocks.{Keyed, output}
 use Rattle.aka.specs.declared.sizes.Sizes.{Sizes}
 use Rattle.aka.specs.declared.sizes.ResyncMask.{ResyncMask}

@@ -1,5 +1,5 @@
 -- What moves at the two ends, and what a call does.
-use Rattle.std.specs.Prelude.{◌≡◌, ℕ, Bool, true, false, cond, not, List, [], ◌∷◌, Some, None, Option, ◌==◌}
+use Rattle.std.specs.Prelude.{◌≡◌, ℕ, Bool, true, cond, not, List, [], Some, None, Option, ◌==◌}
 use Rattle.block.specs.Bytes.{over}
 use Rattle.block.specs.Refusals.{Ground, first}
 

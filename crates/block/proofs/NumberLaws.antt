@@ -1,7 +1,7 @@
 -- Laws of numbers as bytes.
 use Rattle.std.proofs.Common.{◌≡◌, ℕ, zero, suc, ◌+◌, ◌-◌, ◌*◌, ◌/◌, ◌%◌, ◌^◌, ◌<◌, ◌≤◌, List, [], ◌∷◌, ◌++◌, length, get_or, take, drop, set, sym, refl, ap, ◌∙◌, ap₂, add-one, arith, lit<, length-append}
 use native.Mathlib.Nat.{pow-succ', pow-le-pow_right}
-use Rattle.std.specs.Int.Digits.{number_from_digits, AllBelowBase}
+use Rattle.std.specs.Int.Digits.{AllBelowBase}
 use Rattle.std.proofs.lemmas.Int.Digits.{number_push, number_more, number_lt}
 use Rattle.std.proofs.lemmas.List.{take_all, take_more, append_assoc}
 use Rattle.std.proofs.lemmas.Nat.{mod_below}

@@ -1,5 +1,5 @@
 -- Turning every bit over twice gives the block again.
-use Rattle.std.specs.Prelude.{◌≡◌, ℕ, zero, suc, ◌<◌, List, length, get_or, replicate, refl}
+use Rattle.std.specs.Prelude.{◌≡◌, ℕ, zero, suc, List, replicate, refl}
 use Rattle.std.proofs.Common.{lit<}
 use Rattle.block.specs.Bytes.{AreBytes, IsBlock}
 use Rattle.block.proofs.ByteLaws.{⊕_undoes_itself, block_⊕}

@@ -1,11 +1,11 @@
 -- What a call wrote, once its buffers are cut.
-use Rattle.std.proofs.Common.{◌≡◌, ℕ, ◌+◌, ◌<◌, ◌≤◌, Bool, true, false, cond, eqb, List, [], ◌∷◌, ◌++◌, length, take, drop, Some, vec_items, sym, refl, ap, ◌∙◌, subst, ap₂, arith, length-append, take_at}
+use Rattle.std.proofs.Common.{◌≡◌, ℕ, ◌+◌, ◌<◌, Bool, true, false, eqb, List, [], ◌∷◌, length, take, drop, Some, vec_items, sym, refl, ap, ◌∙◌, subst, arith, length-append, take_at}
 use Rattle.block.specs.Bytes.{AreBytes, IsBlock, over, ◌⊕◌, filled}
 use Rattle.block.proofs.ByteLaws.{length_⊕}
 use Rattle.aka.specs.Numbers.{exceeds}
 use Rattle.std.proofs.lemmas.Bool.{cond_both, eqb-true, eq-eqb, true≢false}
 use Rattle.milenage.specs.Question.{Question, input}
-use Rattle.milenage.specs.Blocks.{temp, block, trace_of}
+use Rattle.milenage.specs.Blocks.{temp, trace_of}
 use Rattle.milenage.proofs.BlockLaws.{block_block}
 use Rattle.session.proofs.Asked.{Fine, asks}
 use Rattle.session.proofs.Agreeing.{trace_grounds, traced_by, trace_fine}

@@ -1,15 +1,13 @@
 -- Turn after turn.
-use Rattle.std.proofs.Common.{◌≡◌, ℕ, zero, suc, ◌+◌, ◌-◌, ◌<◌, ◌≤◌, Bool, true, false, List, [], ◌∷◌, ◌++◌, Some, None, Option, sym, refl, ap, ◌∙◌, subst, ap₂, append_assoc, arith}
-use Rattle.aka.specs.Setup.{Setup, SoundSetup, Alike}
+use Rattle.std.proofs.Common.{◌≡◌, ℕ, suc, List, [], ◌∷◌, ◌++◌, Some, None, sym, refl, ap, ◌∙◌, subst, ap₂, append_assoc}
+use Rattle.aka.specs.Setup.{Setup}
 use Rattle.aka.specs.States.{Network}
 use Rattle.aka.specs.Calls.{does_lapse}
-use Rattle.session.specs.Log.{Pair, Call, lapse, Entry, does, Session, after, Fresh}
-use Rattle.session.specs.Laws.{Undo, Shows}
+use Rattle.session.specs.Log.{Pair, Call, lapse, Entry, does, Session, after}
 use Rattle.session.proofs.Sessions
-use Rattle.session.proofs.Every.{every_session_shows}
 use Rattle.driver.specs.Seen.{pair_at}
-use Rattle.driver.specs.Driven.{Turn, entry_at, turn, lapses, Choices, Driven, Leads, Drove, Halted}
-use Rattle.driver.specs.Called.{Turned, LapsesOne}
+use Rattle.driver.specs.Driven.{Turn, entry_at, turn, lapses, Choices, Driven, Leads}
+use Rattle.driver.specs.Called.{Turned}
 
 module _ (s t : Setup) where
   -- ── sessions end to end ──

@@ -1,7 +1,7 @@
 -- Grounds of a pair, and the pair that is opened.
-use Rattle.std.proofs.Common.{◌≡◌, ℕ, ◌<◌, Bool, true, false, cond, not, ◌||◌, eqb, List, [], ◌∷◌, length, Ok, Err, Result, sym, refl, ap, ◌∙◌, subst, arith, lit<}
+use Rattle.std.proofs.Common.{◌≡◌, ℕ, ◌<◌, Bool, true, false, cond, not, ◌||◌, eqb, List, [], ◌∷◌, length, Ok, Err, Result, sym, refl, ◌∙◌, subst, arith, lit<}
 use Rattle.block.specs.Bytes.{AreBytes}
-use Rattle.block.specs.Refusals.{number, Ground, ◌when◌, first}
+use Rattle.block.specs.Refusals.{number, ◌when◌, first}
 use Rattle.block.specs.declared.refusal.Refusal.{Refusal}
 use Rattle.block.specs.declared.refusal.Refusal.TheVariants.{Key, OperatorField, Constants, Name, Index, Size, Mask, Number, Rand, Amf, Carried, Buffer, Spent, Stale, Message, Mac, Behind}
 use Rattle.driver.specs.declared.types.Stopped.{Stopped}
@@ -10,12 +10,10 @@ use Rattle.aka.specs.declared.sizes.Sizes.{Sizes}
 use Rattle.aka.specs.Setup.{Setup, Alike}
 use Rattle.aka.specs.Calls.{differs}
 use Rattle.aka.specs.Opening.{bad_sizes, open_ground}
-use Rattle.aka.specs.Views.{handed_in, fresh_network}
-use Rattle.session.specs.Log.{Pair, Entry, Session, Fresh}
-use Rattle.session.specs.Laws.{Shows}
+use Rattle.aka.specs.Views.{handed_in}
+use Rattle.session.specs.Log.{Pair, Entry, Fresh}
 use Rattle.session.proofs.Refusing.{differs_false}
-use Rattle.driver.specs.Seen.{pair_at}
-use Rattle.driver.specs.Driven.{Choices, Driven, Drove}
+use Rattle.driver.specs.Driven.{Choices, Drove}
 use Rattle.driver.specs.Opened.{Agree, Answers, Ran, fresh_pair, pair_ground}
 
 -- ── grounds ──

@@ -1,16 +1,16 @@
 -- One turn, over plain values.
-use Rattle.std.proofs.Common.{◌≡◌, ℕ, Bool, true, false, cond, List, [], ◌∷◌, ◌++◌, map, Some, None, vec_items, Option, sym, refl, ap, ◌∙◌, subst, ap₂}
+use Rattle.std.proofs.Common.{◌≡◌, ℕ, List, [], ◌∷◌, ◌++◌, Some, None, vec_items, Option, sym, refl, ap, ◌∙◌, subst, ap₂}
 use Rattle.std.proofs.lemmas.List.{map-append}
 use Rattle.std.proofs.lemmas.Bool.{cond-true, cond-false}
 use Rattle.aka.specs.Setup.{Setup}
 use Rattle.aka.specs.States.{Network, Yield, Done}
-use Rattle.session.specs.Log.{Pair, Call, Entry, at_network, does, Handed, Session, after}
+use Rattle.session.specs.Log.{Pair, Call, Entry, at_network, does, Handed, after}
 use Rattle.session.proofs.Sessions
 use Rattle.driver.specs.declared.types.Answer.{Answer}
 use Rattle.driver.specs.declared.types.Noted.{Noted}
 use Rattle.driver.specs.Seen.{Made, call_of, yield_of, entry_of, logged}
-use Rattle.driver.specs.Driven.{Turn, among, without, keeping, entry_at, noting, passing, spending, turn, Leads}
-use Rattle.driver.specs.Called.{Challenges, Idle, Spends, CameTo, Turned}
+use Rattle.driver.specs.Driven.{Turn, among, without, entry_at, noting, passing, spending, turn, Leads}
+use Rattle.driver.specs.Called.{Spends, CameTo, Turned}
 
 -- a pair by its parts
 abbrev pub pair : Network → List ℕ → Pair

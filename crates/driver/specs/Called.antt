@@ -1,5 +1,5 @@
 -- What the inner functions answer.
-use Rattle.std.specs.Prelude.{◌≡◌, ℕ, ◌+◌, Bool, true, false, List, [], ◌∷◌, ◌++◌, take, drop, Some, None, Ok, Err, Option, Result, slice_index_or}
+use Rattle.std.specs.Prelude.{◌≡◌, ℕ, ◌+◌, Bool, true, false, List, [], ◌∷◌, ◌++◌, take, drop, Some, None, Option, slice_index_or}
 use Rattle.aka.specs.declared.ticket.Ticket.{Ticket}
 use Rattle.aka.specs.Setup.{Setup}
 use Rattle.aka.specs.States.{Network, Yield, Done}

@@ -1,5 +1,5 @@
 -- What the choices of a technician make of a pair.
-use Rattle.std.specs.Prelude.{◌≡◌, ℕ, zero, suc, Bool, true, false, cond, ◌||◌, List, [], ◌∷◌, ◌++◌, Some, None, Option, ◌==◌}
+use Rattle.std.specs.Prelude.{◌≡◌, ℕ, zero, suc, Bool, false, cond, ◌||◌, List, [], ◌∷◌, ◌++◌, Some, None, Option, ◌==◌}
 use Rattle.aka.specs.Setup.{Setup, Alike}
 use Rattle.aka.specs.States.{Yield, issued, confirmed, raised, kept, lapsed, accepted, traced, refused}
 use Rattle.session.specs.Log.{Pair, Call, challenge, confirm, resync, lapse, receive, trace, Entry, does, Session, after, Fresh}

@@ -1,7 +1,7 @@
 -- Whitening keeps the laws of the kernel below.
 use Rattle.std.specs.Prelude.{◌≡◌, List, ℕ}
 use Rattle.std.proofs.Common.{ap, ◌∙◌, arith}
-use Rattle.block.specs.Bytes.{AreBytes, IsBlock, ◌⊕◌}
+use Rattle.block.specs.Bytes.{IsBlock, ◌⊕◌}
 use Rattle.block.proofs.ByteLaws.{⊕_undoes_itself, block_⊕}
 use Rattle.kernel.specs.Layers.{whitened}
 

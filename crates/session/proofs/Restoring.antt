@@ -5,7 +5,7 @@ use Rattle.block.specs.Bytes.{IsBlock}
 use Rattle.block.specs.Numbers.{value}
 use Rattle.aka.specs.Numbers.{next_number}
 use Rattle.aka.specs.Setup.{Setup, SoundSetup}
-use Rattle.aka.specs.Tokens.{autn, auts, auts_number}
+use Rattle.aka.specs.Tokens.{auts, auts_number}
 use Rattle.aka.specs.States.{Done, stale, pending_rand, raised, kept}
 use Rattle.aka.specs.Calls.{does_receive, does_resync}
 use Rattle.session.specs.Log.{Pair, Call, Entry, does, Notes, Session, after}

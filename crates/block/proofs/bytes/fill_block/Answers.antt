@@ -1,5 +1,4 @@
-use Rattle.std.proofs.Common.{◌≡◌, ℕ, ◌-◌, min, List, ◌++◌, length, take, drop, sym, ap, ◌∙◌, arith}
-use Rattle.block.specs.Bytes.{zeros}
+use Rattle.std.proofs.Common.{◌≡◌, ℕ, ◌-◌, min, List, length, arith}
 use Rattle.block.proofs.ByteLaws.{filled_front}
 use Rattle.block.proofs.bytes.fill_block.Goals as goal
 

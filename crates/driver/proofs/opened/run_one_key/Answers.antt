@@ -1,4 +1,4 @@
-use Rattle.std.proofs.Common.{◌≡◌, ℕ, ◌<◌, List, vec_items, sym, refl, ap, ◌∙◌, subst}
+use Rattle.std.proofs.Common.{ℕ, ◌<◌, List, vec_items, ap, ◌∙◌, subst}
 use Rattle.aka.specs.Calls.{differs}
 use Rattle.rijndael.specs.Cipher.{encrypt}
 use Rattle.rijndael.specs.Schedule.{round_keys}

@@ -1,8 +1,6 @@
-use Rattle.std.proofs.Common.{◌≡◌, ℕ, ◌<◌, List, vec_items, sym, refl, ap, ◌∙◌, subst, ap₂}
-use Rattle.aka.specs.Setup.{Setup}
+use Rattle.std.proofs.Common.{ℕ, ◌<◌, List, vec_items, sym, ◌∙◌, subst, ap₂}
 use Rattle.aka.specs.States.{Network}
-use Rattle.aka.specs.Views.{network_setup, card_setup, network_of, card_number, handed_in, fresh_network}
-use Rattle.session.specs.Log.{Pair}
+use Rattle.aka.specs.Views.{network_setup, card_setup, handed_in}
 use Rattle.driver.specs.Seen.{logged, pair_at, pair_of}
 use Rattle.driver.specs.Opened.{Agree, fresh_pair}
 use Rattle.driver.proofs.Opening

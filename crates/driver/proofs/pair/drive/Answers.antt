@@ -1,13 +1,13 @@
-use Rattle.std.proofs.Common.{◌≡◌, ℕ, true, List, [], ◌++◌, is_err, vec_items, sym, refl, ap, ◌∙◌, subst}
+use Rattle.std.proofs.Common.{◌≡◌, ℕ, List, [], ◌++◌, is_err, vec_items, ap, ◌∙◌, subst}
 use Rattle.std.proofs.lemmas.Result.{err_from_is_err_and, MatchResult-from_err}
 use Rattle.aka.specs.Setup.{Setup}
 use Rattle.aka.specs.States.{Network}
 use Rattle.aka.specs.Views.{network_setup, card_setup, network_of, card_number}
-use Rattle.session.specs.Log.{Pair, Entry, Session, Fresh}
+use Rattle.session.specs.Log.{Pair, Entry}
 use Rattle.session.specs.Laws.{Undo}
 use Rattle.session.proofs.Every.{every_session_shows}
 use Rattle.driver.specs.Seen.{logged, pair_at, pair_of, serials}
-use Rattle.driver.specs.Driven.{Driven, Leads, Drove, Halted, lapses}
+use Rattle.driver.specs.Driven.{Driven, Leads, lapses}
 use Rattle.driver.proofs.Driving
 use Rattle.driver.proofs.pair.drive.Goals as goal
 

@@ -1,7 +1,6 @@
-use Rattle.std.proofs.Common.{◌≡◌, ℕ, Bool, true, false, List, [], ◌∷◌, ◌++◌, vec_items, sym, refl, ap, ◌∙◌}
+use Rattle.std.proofs.Common.{◌≡◌, ℕ, true, List, [], ◌∷◌, ◌++◌, vec_items, sym, ap, ◌∙◌}
 use Rattle.std.proofs.lemmas.Bool.{true≢false}
 use Rattle.aka.specs.Setup.{Setup}
-use Rattle.aka.specs.States.{Network}
 use Rattle.aka.specs.Views.{network_of}
 use Rattle.session.specs.Log.{Pair, lapse, does}
 use Rattle.driver.specs.declared.types.Noted.{Noted}

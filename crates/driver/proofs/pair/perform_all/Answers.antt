@@ -1,4 +1,4 @@
-use Rattle.std.proofs.Common.{◌≡◌, ℕ, zero, suc, ◌+◌, ◌-◌, ◌<◌, List, ◌++◌, Some, None, vec_items, Option, sym, refl, ap, ◌∙◌, subst, arith}
+use Rattle.std.proofs.Common.{◌≡◌, ℕ, suc, ◌+◌, ◌-◌, ◌<◌, List, ◌++◌, Some, None, vec_items, Option, ◌∙◌, subst, arith}
 use Rattle.aka.specs.Setup.{Setup}
 use Rattle.aka.specs.Views.{network_setup, card_setup}
 use Rattle.session.specs.Log.{Pair, Call, Entry}

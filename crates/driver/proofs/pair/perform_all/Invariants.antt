@@ -1,7 +1,7 @@
-use Rattle.std.proofs.Common.{◌≡◌, ℕ, ◌-◌, List, vec_items}
+use Rattle.std.proofs.Common.{◌≡◌, ◌-◌, vec_items}
 use Rattle.aka.specs.Setup.{Setup}
 use Rattle.aka.specs.Views.{network_setup, card_setup}
-use Rattle.session.specs.Log.{Pair, Entry}
+use Rattle.session.specs.Log.{Pair}
 use Rattle.driver.specs.Seen.{logged, pair_of, serials}
 use Rattle.driver.specs.Driven.{Leads}
 use Rattle.driver.proofs.Driving.{Completes}

@@ -1,4 +1,4 @@
-use Rattle.std.proofs.Common.{◌≡◌, ◌<◌, length, get_or, vec_items, sym, ◌∙◌, arith, below_more}
+use Rattle.std.proofs.Common.{◌<◌, length, vec_items, sym, ◌∙◌, arith, below_more}
 use Rattle.std.proofs.lemmas.List.{length-map}
 use Rattle.aka.specs.declared.ticket.Ticket.{Ticket}
 use Rattle.driver.specs.Seen.{serials}

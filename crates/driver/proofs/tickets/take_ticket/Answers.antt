@@ -1,4 +1,4 @@
-use Rattle.std.proofs.Common.{◌≡◌, ◌<◌, length, vec_items, sym, ap, ◌∙◌, arith}
+use Rattle.std.proofs.Common.{◌<◌, length, vec_items, sym, ap, ◌∙◌, arith}
 use Rattle.driver.specs.Seen.{serials}
 use Rattle.driver.proofs.Holding
 use Rattle.driver.proofs.tickets.take_ticket.Goals as goal

@@ -1,10 +1,10 @@
-use Rattle.std.proofs.Common.{◌≡◌, ℕ, List, [], ◌∷◌, ◌++◌, vec_items, Option, sym, refl, ap, ◌∙◌, subst}
+use Rattle.std.proofs.Common.{ℕ, List, [], ◌∷◌, ◌++◌, vec_items, Option, ap, ◌∙◌, subst}
 use Rattle.aka.specs.Setup.{Setup}
 use Rattle.aka.specs.Views.{network_setup, card_setup}
 use Rattle.session.specs.Log.{Pair, Call}
 use Rattle.driver.specs.declared.types.Answer.{Answer}
 use Rattle.driver.specs.declared.types.Noted.{Noted}
-use Rattle.driver.specs.Seen.{call_of, logged, pair_of, serials}
+use Rattle.driver.specs.Seen.{call_of, pair_of, serials}
 use Rattle.driver.specs.Called.{CameTo}
 use Rattle.driver.proofs.Turning
 use Rattle.driver.proofs.turns.perform.Goals as goal

@@ -1,4 +1,4 @@
-use Rattle.std.proofs.Common.{◌≡◌, ℕ, ◌+◌, ◌*◌, ◌<◌, get_or, vec_items, vec_len, sym, refl, ap, ◌∙◌, arith, rules, below_more}
+use Rattle.std.proofs.Common.{◌≡◌, ◌+◌, ◌*◌, get_or, vec_items, vec_len, refl, ◌∙◌, arith, rules, below_more}
 use Rattle.script.proofs.digits.spelled_bytes.Goals as goal
 
 pub loop-i-preserved : goal.loop-i-preserved

@@ -1,4 +1,4 @@
-use Rattle.std.proofs.Common.{◌≡◌, ℕ, ◌-◌, List, [], length, take, sym, ap, ◌∙◌, arith}
+use Rattle.std.proofs.Common.{◌≡◌, ℕ, List, [], length, take, sym, ap, ◌∙◌, arith}
 use Rattle.aka.specs.declared.sizes.Sizes.{Sizes}
 use Rattle.aka.specs.declared.sizes.Admitted.{Admitted}
 use Rattle.aka.specs.declared.sizes.ResyncMask.{ResyncMask}

@@ -1,4 +1,4 @@
-use Rattle.std.proofs.Common.{◌≡◌, ℕ, ◌-◌, List, ap, subst}
+use Rattle.std.proofs.Common.{◌≡◌, ℕ, List, ap, subst}
 use Rattle.aka.specs.declared.sizes.Sizes.{Sizes}
 use Rattle.aka.specs.Setup.{Setup}
 use Rattle.aka.specs.Parts.{TellsAuts}

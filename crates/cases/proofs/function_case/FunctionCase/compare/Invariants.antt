@@ -1,4 +1,4 @@
-use Rattle.std.proofs.Common.{◌≡◌, length}
+use Rattle.std.proofs.Common.{◌≡◌}
 use Rattle.published.specs.Comparison.{more}
 use Rattle.cases.proofs.function_case.FunctionCase.compare.Given as goal
 

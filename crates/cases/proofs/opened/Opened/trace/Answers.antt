@@ -1,11 +1,11 @@
-use Rattle.std.proofs.Common.{◌≡◌, ℕ, Bool, true, false, cond, List, length, sym, refl, ap, ◌∙◌, arith}
+use Rattle.std.proofs.Common.{◌≡◌, ℕ, Bool, true, false, cond, List, length, refl, ap, ◌∙◌, arith}
 use Rattle.block.specs.Bytes.{over, zeros}
 use Rattle.milenage.specs.Blocks.{trace_of}
 use Rattle.milenage.specs.Calls.{asked}
 use Rattle.aka.specs.Setup.{Setup, keyed}
 use Rattle.aka.specs.Views.{network_setup}
 use Rattle.rijndael.specs.Cipher.{encrypt}
-use Rattle.aka.specs.States.{Yield, Done, traced, refused, silent}
+use Rattle.aka.specs.States.{Done, traced, refused, silent}
 use Rattle.aka.specs.Calls.{does_trace}
 use Rattle.cases.proofs.opened.Opened.trace.Goals as goal
 

@@ -1,9 +1,9 @@
-use Rattle.std.proofs.Common.{◌≡◌, ℕ, List, [], ◌++◌, length, take, vec_items, vec_len, sym, refl, ap, ◌∙◌, subst, ap₂, take_at}
+use Rattle.std.proofs.Common.{◌≡◌, ℕ, List, ◌++◌, take, vec_items, ap, ◌∙◌, subst, ap₂, take_at}
 use Rattle.block.specs.Refusals.{number}
 use Rattle.block.proofs.NumberLaws.{length_bytes_of}
 use Rattle.aka.specs.Setup.{Setup}
 use Rattle.aka.specs.Tokens.{answers_size, auts_size}
-use Rattle.aka.specs.States.{Done, Yield, accepted, refused}
+use Rattle.aka.specs.States.{Yield, accepted, refused}
 use Rattle.aka.specs.Calls.{does_receive}
 use Rattle.aka.specs.Views.{card_setup, card_number}
 use Rattle.driver.specs.Called.{Wrote}

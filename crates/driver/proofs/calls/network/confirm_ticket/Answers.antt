@@ -1,7 +1,6 @@
-use Rattle.std.proofs.Common.{◌≡◌, sym, refl, ap, ◌∙◌}
+use Rattle.std.proofs.Common.{◌≡◌, sym, ap, ◌∙◌}
 use Rattle.aka.specs.Told.{told_confirm}
 use Rattle.driver.specs.Seen.{yield_of}
-use Rattle.block.specs.Bytes.{AreBytes}
 use Rattle.driver.proofs.Cutting
 use Rattle.driver.proofs.calls.network.confirm_ticket.Goals as goal
 use Rattle.driver.proofs.calls.network.confirm_ticket.Goals.{in-Ok, in-Err}

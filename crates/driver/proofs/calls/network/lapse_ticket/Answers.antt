@@ -1,4 +1,4 @@
-use Rattle.std.proofs.Common.{◌≡◌, sym, refl, ap, ◌∙◌}
+use Rattle.std.proofs.Common.{◌≡◌, sym, ap, ◌∙◌}
 use Rattle.aka.specs.Told.{told_lapse}
 use Rattle.driver.specs.Seen.{yield_of}
 use Rattle.driver.proofs.Cutting

@@ -1,4 +1,4 @@
-use Rattle.std.proofs.Common.{◌≡◌, ℕ, sym, refl, ap, ◌∙◌, subst}
+use Rattle.std.proofs.Common.{◌≡◌, ℕ, sym, ap, ◌∙◌, subst}
 use Rattle.aka.specs.Told.{told_resync}
 use Rattle.aka.specs.Calls.{does_resync}
 use Rattle.aka.specs.Views.{network_setup, network_of}

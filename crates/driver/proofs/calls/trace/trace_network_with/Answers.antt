@@ -1,4 +1,4 @@
-use Rattle.std.proofs.Common.{◌≡◌, ℕ, List, [], take, vec_items, sym, refl, ap, ◌∙◌, subst, ap₂, take_at}
+use Rattle.std.proofs.Common.{◌≡◌, ℕ, [], take, vec_items, ap, ◌∙◌, subst, ap₂, take_at}
 use Rattle.block.specs.Refusals.{number}
 use Rattle.aka.specs.Setup.{Setup}
 use Rattle.aka.specs.States.{Done, traced, refused}
