@@ -1,8 +1,11 @@
 -- What becomes of the open challenge.
-use Rattle.std.proofs.Common.{◌≡◌, ℕ, Bool, true, false, cond, not, List, [], ◌∷◌, take, Some, None, Option, sym, refl, ap, ◌∙◌, subst}
+use Rattle.std.proofs.Common.{◌≡◌, ℕ, Bool, true, false, cond, not, List, [], ◌∷◌, take, Some, None, Option, Ok, Err, Result, IfErr, sym, refl, ap, ◌∙◌, subst}
 use Rattle.std.proofs.lemmas.Bool.{eq-eqb, ne_eqb}
 use Rattle.aka.specs.declared.sizes.Sizes.{Sizes}
 use Rattle.std.specs.Str.{bytes_eq}
+use Rattle.std.specs.Result.{is_ok}
+use Rattle.block.specs.declared.refusal.Refusal.{Refusal}
+use Rattle.aka.specs.Told.{told_lapse}
 use Rattle.block.specs.declared.refusal.Refusal.TheVariants.{Stale}
 use Rattle.block.specs.Refusals.{◌when◌}
 use Rattle.aka.specs.States.{Network, Shows, stale, spent, pending_rand, pending_xres, lapsed, confirmed, refused}
@@ -71,3 +74,8 @@ shows_stale_confirm p q m serial res e t h =
     subst (λ k. Shows (does_confirm p k res) (refused 14) [] [] [] [] q) e
     (shows_as (by_ground ((14 when stale m p.pending) ∷ []) (spent m p p.number) _ Stale (ap (λ (b : Bool). cond b 14 0) (sym t)))
     (shows_refused (spent m p p.number) q Stale [] [] h))
+
+pub shows_lapse : (p q : Network) (m serial : ℕ) (r : Result (Unit {0}) Refusal) → m ≡ serial → stale m p.pending ≡ not (is_ok r) → IfErr r (λ e. e ≡ Stale)
+    → q ≡ spent m p p.number → Shows (does_lapse p serial) (told_lapse r) [] [] [] [] q
+shows_lapse p q m serial (Ok u) e t h l = shows_lapsed p q m serial e t l
+shows_lapse p q m serial (Err r) e t h l = rw h (shows_stale_lapse p q m serial e t l)

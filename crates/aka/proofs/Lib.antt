@@ -9,4 +9,3 @@ pub mod Received
 pub mod Traced
 pub mod ReadBack
 pub mod Resumed
-pub mod Pieces

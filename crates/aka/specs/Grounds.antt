@@ -1,5 +1,5 @@
 -- On which grounds the calls are refused, over the lengths of what they are passed.
-use Rattle.std.specs.Prelude.{◌≡◌, ℕ, ◌+◌, ◌^◌, ◌<◌, ◌≤◌, Bool, false, not, ◌||◌, List, [], ◌∷◌, Ok, Err, Result, ◌==◌, nat_lt}
+use Rattle.std.specs.Prelude.{◌≡◌, ℕ, ◌+◌, ◌^◌, ◌<◌, ◌≤◌, Bool, false, not, ◌||◌, List, [], ◌∷◌, length, Ok, Err, Result, ◌==◌, nat_lt}
 use Rattle.block.specs.declared.refusal.Refusal.{Refusal}
 use Rattle.block.specs.Numbers.{bytes_of}
 use Rattle.block.specs.Refusals.{number, Ground, ◌when◌, first}
@@ -19,12 +19,13 @@ challenge_grounds z n given rand amf room scratch =
 abbrev pub challenge_ground : Sizes → List ℕ → ℕ → ℕ → ℕ → ℕ → ℕ → ℕ
 challenge_ground z n given rand amf room scratch = first (challenge_grounds z n given rand amf room scratch)
 
--- whether a challenge can be given, with what follows for the number and the count
-abbrev pub MayChallenge : Sizes → ℕ → ℕ → ℕ → ℕ → ℕ → ℕ → Result (Unit {0}) Refusal → Type 0
-MayChallenge z n given rand amf room scratch (Ok u) =
-    (challenge_ground z (bytes_of z.sqn n) given rand amf room scratch ≡ 0) × (n + 1 < 256 ^ z.sqn) × (given < most_given)
+-- whether a challenge can be given, with its AMF and what follows for the number, the count and the lengths
+abbrev pub MayChallenge : Sizes → ℕ → ℕ → ℕ → List ℕ → ℕ → ℕ → Result (List ℕ) Refusal → Type 0
+MayChallenge z n given rand amf room scratch (Ok v) =
+    (challenge_ground z (bytes_of z.sqn n) given rand (length amf) room scratch ≡ 0) × (n + 1 < 256 ^ z.sqn) × (given < most_given)
+    × (v ≡ amf) × (rand ≡ z.rand) × (vector_size z ≤ room) × (96 ≤ scratch)
 MayChallenge z n given rand amf room scratch (Err e) =
-    number e ≡ challenge_ground z (bytes_of z.sqn n) given rand amf room scratch
+    number e ≡ challenge_ground z (bytes_of z.sqn n) given rand (length amf) room scratch
 
 -- those of a received challenge that its lengths tell
 abbrev pub receive_ground : Sizes → ℕ → ℕ → ℕ → ℕ → ℕ → ℕ

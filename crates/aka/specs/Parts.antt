@@ -1,20 +1,12 @@
 -- What the inner functions answer.
-use Rattle.std.specs.Prelude.{◌≡◌, ℕ, ◌^◌, ◌<◌, ◌≤◌, Bool, true, false, List, length, take, Some, None, Option}
+use Rattle.std.specs.Prelude.{◌≡◌, ℕ, ◌^◌, ◌<◌, Bool, true, false, List, take, Some, None, Option}
 use Rattle.std.specs.Str.{bytes_eq}
 use Rattle.block.specs.Bytes.{◌⊕◌}
 use Rattle.block.specs.Numbers.{bytes_of}
-use Rattle.milenage.specs.Blocks.{temp}
-use Rattle.milenage.specs.Steps.{block_at}
 use Rattle.aka.specs.declared.shared.Keys.{Keys}
 use Rattle.aka.specs.declared.shared.Parts.{Parts}
-use Rattle.aka.specs.Setup.{Setup, keyed, f1, f2, f3, f4, f5, mac_s}
+use Rattle.aka.specs.Setup.{Setup, f1, f2, f3, f4, f5, mac_s}
 use Rattle.aka.specs.Tokens.{autn_amf, autn_mac, autn_number, auts_mac, auts_number}
-
--- the scratch bytes are long enough and hold TEMP of a RAND of the end's size
-pub record Ready (s : Setup) (rand scratch : List ℕ) : Type 0 where
-  pub size : length rand ≡ s.sizes.rand
-  pub long : 96 ≤ length scratch
-  pub temp : block_at 0 scratch ≡ temp (keyed s) rand
 
 -- RES, CK and IK are the fronts of their blocks
 pub record KeysOf (s : Setup) (rand : List ℕ) (k : Keys) : Type 0 where

@@ -3,6 +3,7 @@ use Rattle.std.specs.Prelude.{ℕ, List, take, Some, None, Option}
 use Rattle.block.specs.Numbers.{bytes_of}
 use Rattle.aka.specs.declared.sizes.Sizes.{Sizes}
 use Rattle.aka.specs.declared.shared.Core.{Core}
+use Rattle.aka.specs.declared.shared.functions.Functions.{Functions}
 use Rattle.aka.specs.declared.network.NetworkEnd.{NetworkEnd}
 use Rattle.aka.specs.declared.card.CardEnd.{CardEnd}
 use Rattle.aka.specs.Setup.{Setup}
@@ -11,6 +12,14 @@ use Rattle.aka.specs.States.{Challenge, Network}
 -- what stays at an end, its kernel by what it means by forth
 abbrev pub setup_of : {K : Type 0} → (K → List ℕ → List ℕ) → Core K → Setup
 setup_of forth c = record { forth = forth c.kernel; opc = c.opc; constants = c.constants; sizes = c.admitted.sizes }
+
+-- the same of the functions at a RAND, and that RAND
+abbrev pub setup_at : {K : Type 0} {g : _} → (K → List ℕ → List ℕ) → Functions K g → Setup
+setup_at forth f =
+    record { forth = forth f.computation.kernel.now; opc = f.computation.opc.now; constants = f.computation.constants.now; sizes = f.admitted.sizes }
+
+abbrev pub rand_at : {K : Type 0} {g : _} → Functions K g → List ℕ
+rand_at f = take f.admitted.sizes.rand f.rand
 
 abbrev pub network_setup : {K : Type 0} → (K → List ℕ → List ℕ) → NetworkEnd K → Setup
 network_setup forth end = setup_of forth end.core

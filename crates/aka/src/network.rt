@@ -9,6 +9,7 @@ mod reading;
 mod resync;
 
 // What moves at the network end: its number, how many challenges it gave, the serial of the open one, and its RAND and XRES.
+// The record is plain, with an `Option` of the open serial to test a ticket against, as the rules of the ends ask; RAND and XRES stand beside it.
 #[derive(Clone, Copy)]
 struct Book {
     number: u128,
@@ -26,6 +27,7 @@ pub enum Resynced {
 }
 
 // The network's end of a pair.
+// Each call says again that the setup stays and that the scratch is wiped: no type says what a call leaves behind a `&mut`.
 #[derive(Drop)]
 pub struct NetworkEnd<K> {
     core: Core<K>,

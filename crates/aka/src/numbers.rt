@@ -11,10 +11,7 @@ pub(crate) fn read_number(bytes: &[u8]) -> u128
     ensures below { result < 256 ^ length bytes.now }
     ensures again { bytes_of (length bytes.now) result ≡ bytes.now }
 {
-    match number_of(bytes) {
-        Some(n) => n,
-        None => unreachable(),
-    }
+    number_of(bytes).unwrap()
 }
 
 // The number's bytes, then zeros.
@@ -23,7 +20,7 @@ pub(crate) fn number_block(n: u128, size: usize) -> [u8; 32]
     ensures { take size result ≡ bytes_of size n }
 {
     let mut block = [0; 32];
-    put_number(n, &mut block[0..size]);
+    put_number(n, &mut block[..size]);
     block
 }
 
@@ -42,9 +39,5 @@ fn largest(size: usize) -> u128
     requires { size ≤ 12 }
     ensures { result + 1 ≡ 256 ^ size }
 {
-    let mut n = 0u128;
-    for _i in 0..size {
-        n = n * 256 + 255;
-    }
-    n
+    256u128.pow(size as u32) - 1
 }

@@ -3,12 +3,13 @@ ghost use Rattle.block.specs.Bytes.{AreBytes};
 
 use super::sizes::Admitted;
 
-mod asking;
 mod functions;
 mod opening;
 mod tokens;
 mod tracing;
 mod vectors;
+
+pub(crate) use functions::Functions;
 
 // What an end holds for good: its kernel, OPc, c0 to c7 end to end, and its size set.
 #[derive(Drop)]
@@ -16,7 +17,7 @@ pub struct Core<K> {
     kernel: K,
     opc: [u8; 32],
     constants: [u8; 128],
-    admitted: Admitted,
+    pub(crate) admitted: Admitted,
     ghost opc_long: { length opc ≡ 32 },
     ghost opc_bytes: { AreBytes opc },
     ghost constants_long: { length constants ≡ 128 },

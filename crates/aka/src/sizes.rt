@@ -22,10 +22,24 @@ pub struct Sizes {
     pub resync: ResyncMask,
 }
 
+impl Sizes {
+    // The smallest size of each.
+    pub const SMALLEST: Sizes = Sizes {
+        rand: 16,
+        sqn: 6,
+        ak: 6,
+        mac: 8,
+        res: 4,
+        ck: 16,
+        ik: 16,
+        resync: ResyncMask::F5Star,
+    };
+}
+
 // A size set within its bounds, as an end holds it.
 #[derive(Clone, Copy)]
 pub struct Admitted {
-    sizes: Sizes,
+    pub(crate) sizes: Sizes,
     ghost rand_low: { 16 ≤ sizes.rand },
     ghost rand_high: { sizes.rand ≤ 32 },
     ghost sqn_low: { 6 ≤ sizes.sqn },

@@ -12,55 +12,51 @@ const FUNCTION_TESTS: &str = "milenage256.txt";
 
 // Prints what a part came to.
 fn tell(rt: &HostRuntime, name: &str, tally: Tally) -> anyhow::Result<()> {
-    let compared = tally.compared;
-    let differing = tally.differing;
+    let Tally {
+        compared,
+        differing,
+    } = tally;
     println!(rt; "{name}: {compared} values compared, {differing} differ")?;
     Ok(())
 }
 
+// Prints what a part came to, and counts it.
+fn count(rt: &HostRuntime, name: &str, tally: Tally, total: &mut Tally) -> anyhow::Result<()> {
+    total.join(tally);
+    tell(rt, name, tally)
+}
+
 // Compares the kernel's cases, forth and back.
-fn compare_kernel(rt: &HostRuntime) -> anyhow::Result<Tally> {
-    let mut total = Tally::new();
+fn compare_kernel(rt: &HostRuntime, total: &mut Tally) -> anyhow::Result<()> {
     let text = fs::read_to_string(rt, KERNEL_CASES)?;
-    let cases = kernel_cases_of(rt.alloc(), &text)?;
-    for case in &cases {
+    for case in &kernel_cases_of(rt.alloc(), &text)? {
         let mut tally = Tally::new();
         case.run(&mut tally)?;
-        tell(rt, &case.name, tally)?;
-        total.join(tally);
+        count(rt, &case.name, tally, total)?;
     }
-    Ok(total)
+    Ok(())
 }
 
 // Compares the tests of the functions: the blocks of OPc, then each case.
-fn compare_functions(rt: &HostRuntime) -> anyhow::Result<Tally> {
-    let mut total = Tally::new();
+fn compare_functions(rt: &HostRuntime, total: &mut Tally) -> anyhow::Result<()> {
     let text = fs::read_to_string(rt, FUNCTION_TESTS)?;
-    let tests = function_tests_of(rt.alloc(), &text)?;
-    for test in &tests {
+    for test in &function_tests_of(rt.alloc(), &text)? {
         let opened = test.open()?;
-        let tally = test.compare_opc(&opened);
-        tell(rt, &test.name, tally)?;
-        total.join(tally);
+        count(rt, &test.name, test.compare_opc(&opened), total)?;
         for case in &test.cases {
-            let tally = case.compare(&opened)?;
-            tell(rt, &case.name, tally)?;
-            total.join(tally);
+            count(rt, &case.name, case.compare(&opened)?, total)?;
         }
-    }
-    Ok(total)
-}
-
-fn run(rt: &HostRuntime) -> anyhow::Result<()> {
-    let mut total = compare_kernel(rt)?;
-    total.join(compare_functions(rt)?);
-    tell(rt, "total", total)?;
-    if total.differing > 0 {
-        return Err(anyhow!("a value differs from what is published"));
     }
     Ok(())
 }
 
 fn main(rt: HostRuntime) -> anyhow::Result<()> {
-    run(&rt)
+    let mut total = Tally::new();
+    compare_kernel(&rt, &mut total)?;
+    compare_functions(&rt, &mut total)?;
+    tell(&rt, "total", total)?;
+    if total.differing > 0 {
+        return Err(anyhow!("a value differs from what is published"));
+    }
+    Ok(())
 }

@@ -1,7 +1,7 @@
 -- Laws of byte strings.
-use Rattle.std.proofs.Common.{◌≡◌, ℕ, zero, suc, ◌+◌, ◌-◌, ◌<◌, ◌≤◌, min, max, List, [], ◌∷◌, ◌++◌, length, get_or, take, drop, sym, refl, ap, ◌∙◌, ap₂, arith, lit<, length-append}
+use Rattle.std.proofs.Common.{◌≡◌, ℕ, zero, suc, ◌+◌, ◌-◌, ◌<◌, ◌≤◌, max, List, [], ◌∷◌, ◌++◌, length, get_or, take, drop, sym, refl, ap, ◌∙◌, ap₂, arith, lit<, length-append}
 use lib.Bits.{bit_xor, xor_assoc, xor_self, xor_zero_r, xor_lt, xor_comm}
-use Rattle.std.proofs.lemmas.List.{take_at, length-take}
+use Rattle.std.proofs.lemmas.List.{take_at, length-take, get_or-take, take-replicate}
 use Rattle.block.specs.Bytes.{AreBytes, IsBlock, ◌⊕◌, zeros, filled}
 
 -- ── bytes ──
@@ -109,13 +109,8 @@ padded_⊕ [] n ks h = zeros_⊕ n ks (omega arith)
 padded_⊕ (x ∷ xs) n [] h = absurd (omega arith)
 padded_⊕ (x ∷ xs) n (k ∷ ks) h = ap (λ (l : List ℕ). bit_xor x k ∷ l) (padded_⊕ xs n ks (omega arith))
 
-take_zeros : (n m : ℕ) → n ≤ m → take n (zeros m) ≡ zeros n
-take_zeros zero m k = refl
-take_zeros (suc n) zero k = absurd (omega arith)
-take_zeros (suc n) (suc m) k = ap (λ (l : List ℕ). 0 ∷ l) (take_zeros n m (omega arith))
-
 take_padded : (n m : ℕ) (x : List ℕ) → length x ≤ n → n ≤ m → take n (x ++ zeros m) ≡ x ++ zeros (n - length x)
-take_padded n m [] h k = let e : n ≡ n - 0 = omega arith in take_zeros n m k ∙ ap zeros e
+take_padded n m [] h k = let e : n ≡ n - 0 = omega arith in take-replicate n m 0 k ∙ ap zeros e
 take_padded zero m (b ∷ x) h k = absurd (omega arith)
 take_padded (suc n) m (b ∷ x) h k =
     let e : n - length x ≡ suc n - suc (length x) = omega arith in
@@ -125,17 +120,19 @@ pub filled_zeros : (x : List ℕ) → length x ≤ 32 → filled x ≡ x ++ zero
 unfolding filled
 filled_zeros x h = take_padded 32 32 x h (omega arith)
 
--- the front of a string that a block has room for, then zeros
-front_zeros : (m k : ℕ) (x : List ℕ) → m ≤ k → take (min (length x) m) x ++ drop (min (length x) m) (zeros m) ≡ take m (x ++ zeros k)
-front_zeros m k [] h = let e : min 0 m ≡ 0 = omega arith in rw e (sym (take_zeros m k h))
-front_zeros zero k (b ∷ x) h = let e : min (suc (length x)) 0 ≡ 0 = omega arith in rw e
-front_zeros (suc m) k (b ∷ x) h =
-    let e : min (suc (length x)) (suc m) ≡ suc (min (length x) m) = omega arith in
-    rw e (ap (λ (l : List ℕ). b ∷ l) (front_zeros m k x (omega arith)))
+zeros_beyond : (n i : ℕ) → get_or (zeros n) i 0 ≡ 0
+zeros_beyond zero i = refl
+zeros_beyond (suc n) zero = refl
+zeros_beyond (suc n) (suc i) = zeros_beyond n i
 
-pub filled_front : (x : List ℕ) → take (min (length x) 32) x ++ drop (min (length x) 32) (zeros 32) ≡ filled x
+get_or_padded : (x : List ℕ) (n i : ℕ) → get_or (x ++ zeros n) i 0 ≡ get_or x i 0
+get_or_padded [] n i = zeros_beyond n i
+get_or_padded (b ∷ x) n zero = refl
+get_or_padded (b ∷ x) n (suc i) = get_or_padded x n i
+
+pub get_or_filled : (x : List ℕ) (i : ℕ) → i < 32 → get_or (filled x) i 0 ≡ get_or x i 0
 unfolding filled
-filled_front x = front_zeros 32 32 x (omega arith)
+get_or_filled x i h = get_or-take 32 (x ++ zeros 32) i 0 h ∙ get_or_padded x 32 i
 
 pub length_filled : (x : List ℕ) → length (filled x) ≡ 32
 unfolding filled

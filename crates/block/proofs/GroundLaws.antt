@@ -1,10 +1,8 @@
 -- Of grounds listed by rising number, the first that holds is the smallest.
-use Rattle.std.proofs.Common.{◌≡◌, ℕ, ◌<◌, ◌≤◌, Bool, true, false, List, [], ◌∷◌, sym, refl, ap, ◌∙◌, inl, inr, ⊎_elim, arith}
+use Rattle.std.proofs.Common.{◌≡◌, ℕ, ◌<◌, ◌≤◌, true, false, List, [], ◌∷◌, sym, refl, ap, ◌∙◌, inl, inr, ⊎_elim, arith}
+use Rattle.std.proofs.lemmas.Bool.{cases_Bool, true≢false}
 use Rattle.block.specs.Refusals.{Ground, first}
 use Rattle.block.specs.Laws.{Among, Rising}
-
-true_is_not_false : true ≡ false → ⊥
-true_is_not_false p = let z : ◌≡◌ {A = ℕ} 0 1 = cc in omega arith
 
 above : (n : ℕ) (gs : List Ground) → Rising n gs → (g : Ground) → Among g gs → n < g.number
 above n [] r g a = absurd a
@@ -20,15 +18,11 @@ head_holds g gs h = rw h
 head_fails : (g : Ground) (gs : List Ground) → g.holds ≡ false → first (g ∷ gs) ≡ first gs
 head_fails g gs h = rw h
 
-by_head : {P : Type 0} (b : Bool) → (b ≡ true → P) → (b ≡ false → P) → P
-by_head true t f = t refl
-by_head false t f = f refl
-
 pub smallest : (n : ℕ) (gs : List Ground) → Rising n gs → (g : Ground) → Among g gs → g.holds ≡ true → (0 < first gs) × (first gs ≤ g.number)
 smallest n [] r g a h = absurd a
 smallest n (k ∷ gs) r g a h =
     let j : n < k.number = r.0 in
-    by_head k.holds
+    ⊎_elim
     (λ t.
     let e = head_holds k gs t in
     let u : k.number ≤ g.number =
@@ -37,13 +31,15 @@ smallest n (k ∷ gs) r g a h =
     (λ f.
     let e = head_fails k gs f in
     let b : Among g gs =
-    ⊎_elim (λ p. let q : true ≡ false = sym h ∙ sym (ap (λ (x : Ground). x.holds) p) ∙ f in absurd (true_is_not_false q)) (λ b. b) a in
+    ⊎_elim (λ p. let q : true ≡ false = sym h ∙ sym (ap (λ (x : Ground). x.holds) p) ∙ f in absurd (true≢false q)) (λ b. b) a in
     let i = smallest k.number gs r.1 g b h in
     (omega (arith, i.0), omega (arith, i.1)))
+    (cases_Bool k.holds)
 
 pub one_that_holds : (n : ℕ) (gs : List Ground) → Rising n gs → 0 < first gs → (g : Ground) × Among g gs × (g.holds ≡ true) × (g.number ≡ first gs)
 one_that_holds n [] r h = absurd (omega arith)
 one_that_holds n (k ∷ gs) r h =
-    by_head k.holds
+    ⊎_elim
     (λ t. let e = head_holds k gs t in (k, inl refl, t, omega arith))
     (λ f. let e = head_fails k gs f in let i = one_that_holds k.number gs r.1 (omega arith) in (i.0, inr i.1, i.2, omega (arith, i.3)))
+    (cases_Bool k.holds)

@@ -1,3 +1,4 @@
 pub mod ByteLaws
 pub mod NumberLaws
 pub mod GroundLaws
+pub mod Made

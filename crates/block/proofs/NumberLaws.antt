@@ -1,9 +1,9 @@
 -- Laws of numbers as bytes.
-use Rattle.std.proofs.Common.{◌≡◌, ℕ, zero, suc, ◌+◌, ◌-◌, ◌*◌, ◌/◌, ◌%◌, ◌^◌, ◌<◌, ◌≤◌, List, [], ◌∷◌, ◌++◌, length, get_or, take, drop, set, sym, refl, ap, ◌∙◌, ap₂, add-one, arith, lit<, length-append}
+use Rattle.std.proofs.Common.{◌≡◌, ℕ, zero, suc, ◌+◌, ◌-◌, ◌*◌, ◌/◌, ◌%◌, ◌^◌, ◌<◌, ◌≤◌, List, [], ◌∷◌, ◌++◌, length, get_or, take, reverse, set, sym, refl, ap, ◌∙◌, ap₂, add-one, arith, lit<, length-append}
 use native.Mathlib.Nat.{pow-succ', pow-le-pow_right}
 use Rattle.std.specs.Int.Digits.{AllBelowBase}
 use Rattle.std.proofs.lemmas.Int.Digits.{number_push, number_more, number_lt}
-use Rattle.std.proofs.lemmas.List.{take_all, take_more, append_assoc}
+use Rattle.std.proofs.lemmas.List.{take_all, take_more, take_more_set, reverse-append, append_assoc}
 use Rattle.std.proofs.lemmas.Nat.{mod_below}
 use Rattle.block.specs.Bytes.{AreBytes}
 use Rattle.block.specs.Numbers.{value, bytes_of}
@@ -55,20 +55,14 @@ bytes_of_value x h =
     let t = take_all (length x) x (omega arith) in
     ap (λ y. bytes_of (length x) (value y)) (sym t) ∙ front_again x h (length x) (omega arith) ∙ t
 
--- one turn of a loop that writes a number from its last byte on
-pub written : (j v : ℕ) (out : List ℕ) → j < length out → drop j (set out j v) ≡ v ∷ drop (suc j) out
-written j v [] h = absurd (omega arith)
-written zero v (x ∷ xs) h = refl
-written (suc j) v (x ∷ xs) h = written j v xs (omega arith)
-
-pub bytes_turn : (i rest : ℕ) (out : List ℕ) → 0 < i → i ≤ length out
-    → bytes_of i rest ++ drop i out ≡ bytes_of (i - 1) (rest / 256) ++ drop (i - 1) (set out (i - 1) (rest % 256))
+-- one turn of a loop that writes the bytes of a number in reverse
+pub bytes_turn : (k i rest : ℕ) (out : List ℕ) → k ≡ length out → i < k
+    → bytes_of (k - i) rest ++ reverse (take i out) ≡ bytes_of (k - (i + 1)) (rest / 256) ++ reverse (take (i + 1) (set out i (rest % 256)))
 unfolding bytes_of
-bytes_turn zero rest out p l = absurd (omega arith)
-bytes_turn (suc j) rest out p l =
-    let e : suc j - 1 ≡ j = omega arith in
-    let w = written j (rest % 256) out (omega arith) in
-    rw (e, w, append_assoc) refl
+bytes_turn k i rest out e h =
+    let s : k - i ≡ suc (k - (i + 1)) = omega arith in
+    let l : i < length out = omega arith in
+    rw (s, take_more_set out i (rest % 256), reverse-append (take i out) (rest % 256 ∷ []), append_assoc) refl
 
 -- bounds of a loop that reads a number
 power_more : (i : ℕ) → 256 ^ (i + 1) ≡ 256 * 256 ^ i

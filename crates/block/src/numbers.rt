@@ -19,9 +19,11 @@ pub fn number_of(bytes: &[u8]) -> Option<u128>
 pub fn put_number(n: u128, out: &mut [u8])
     ensures { out.new ≡ bytes_of (length out.old) n }
 {
+    // The lowest byte first, and then the other way round.
     let mut rest = n;
-    for i in (0..out.len()).rev() {
-        out[i] = (rest % 256) as u8;
+    for byte in out.iter_mut() {
+        *byte = (rest % 256) as u8;
         rest /= 256;
     }
+    out.reverse();
 }

@@ -1,12 +1,13 @@
 ghost use Rattle.std.specs.Prelude.{◌≡◌};
 ghost use Rattle.block.specs.Refusals.{number as number_of, word as word_of};
 
+use std::error::Error;
 use std::fmt;
 
 // Why a call is refused, in the order of the numbers from 1.
-#[derive(Clone, Copy, PartialEq, Eq, Debug)]
+#[derive(Clone, Copy, Debug, PartialEq, Eq, Hash)]
 pub enum Refusal {
-    Key,
+    Key = 1,
     OperatorField,
     Constants,
     Name,
@@ -30,25 +31,7 @@ impl Refusal {
     pub fn number(self) -> u8
         ensures { result ≡ number_of self }
     {
-        match self {
-            Refusal::Key => 1,
-            Refusal::OperatorField => 2,
-            Refusal::Constants => 3,
-            Refusal::Name => 4,
-            Refusal::Index => 5,
-            Refusal::Size => 6,
-            Refusal::Mask => 7,
-            Refusal::Number => 8,
-            Refusal::Rand => 9,
-            Refusal::Amf => 10,
-            Refusal::Carried => 11,
-            Refusal::Buffer => 12,
-            Refusal::Spent => 13,
-            Refusal::Stale => 14,
-            Refusal::Message => 15,
-            Refusal::Mac => 16,
-            Refusal::Behind => 17,
-        }
+        self as u8
     }
 
     // The word that stands beside the number in print.
@@ -80,8 +63,8 @@ impl Refusal {
 // The number and its word.
 impl fmt::Display for Refusal {
     fn fmt<W: fmt::Write>(&self, f: &mut fmt::Formatter<W>) -> fmt::Result {
-        let n = self.number();
-        let w = self.word();
-        write!(f, "{n} {w}")
+        write!(f, "{} {}", self.number(), self.word())
     }
 }
+
+impl Error for Refusal {}

@@ -1,28 +1,8 @@
--- The eight functions: their indices, their names and labels in print, and the sizes of their outputs.
+-- The eight functions: what their outputs are called in print, and the sizes of these.
 use Rattle.std.specs.Prelude.{ℕ, List, [], codes}
-use Rattle.cases.specs.declared.functions.Function.{Function}
-use Rattle.cases.specs.declared.functions.Function.TheVariants.{F1Star, F1, F2, F3, F4, F5, F5Star, F5StarStar}
+use Rattle.milenage.specs.declared.function.Function.{Function}
+use Rattle.milenage.specs.declared.function.Function.TheVariants.{F1Star, F1, F2, F3, F4, F5, F5Star, F5StarStar}
 use Rattle.cases.specs.declared.sizes.CaseSizes.{CaseSizes}
-
-abbrev pub index_of : Function → ℕ
-index_of F1Star = 0
-index_of F1 = 1
-index_of F2 = 2
-index_of F3 = 3
-index_of F4 = 4
-index_of F5 = 5
-index_of F5Star = 6
-index_of F5StarStar = 7
-
-abbrev pub name_of : Function → List ℕ
-name_of F1Star = codes "f1*"
-name_of F1 = codes "f1"
-name_of F2 = codes "f2"
-name_of F3 = codes "f3"
-name_of F4 = codes "f4"
-name_of F5 = codes "f5"
-name_of F5Star = codes "f5*"
-name_of F5StarStar = codes "f5**"
 
 -- what a function's output is called
 abbrev pub output_of : Function → List ℕ

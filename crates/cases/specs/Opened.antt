@@ -6,14 +6,15 @@ use Rattle.milenage.specs.Blocks.{trace_of}
 use Rattle.milenage.specs.Calls.{asked}
 use Rattle.aka.specs.Setup.{keyed}
 use Rattle.aka.specs.Views.{network_setup}
-use Rattle.cases.specs.declared.functions.Function.{Function}
+use Rattle.milenage.specs.declared.function.Function.{Function}
 use Rattle.cases.specs.declared.opened.Opened.{Opened}
 use Rattle.cases.specs.declared.sizes.CaseSizes.{CaseSizes}
 use Rattle.cases.specs.declared.traced.Traced.TheVariants.{Answer}
 use Rattle.cases.specs.declared.label.Part.{Part}
 use Rattle.cases.specs.declared.label.Part.TheVariants.{Traced, MacS, Output}
 use Rattle.cases.specs.declared.opc_block.OpcBlock.{OpcBlock}
-use Rattle.cases.specs.Functions.{index_of, carried_of, size_of}
+use Rattle.milenage.specs.Functions.{index_of}
+use Rattle.cases.specs.Functions.{carried_of, size_of}
 use Rattle.cases.specs.Opc.{opc_block}
 use Rattle.cases.specs.Places.{placed}
 

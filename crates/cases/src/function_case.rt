@@ -1,15 +1,15 @@
-ghost use Rattle.std.specs.Prelude.{◌≡◌, take, Ok, Err, vec_len};
+ghost use Rattle.std.specs.Prelude.{◌≡◌, take, vec_len, IfOk};
 ghost use Rattle.published.specs.Comparison.{Compared, more};
 ghost use Rattle.cases.specs.Functions.{size_of};
 ghost use Rattle.cases.specs.Opened.{value_of};
 
 use super::fault::Fault;
-use super::functions::Function;
-use super::label::Part;
+use super::label::{FunctionLabel, Part};
 use super::opened::Opened;
 use super::sizes::CaseSizes;
 use super::traced::{Trace, Traced};
-use milenage::cut;
+use super::value::Value;
+use milenage::{Function, cut};
 use published::Tally;
 use std::alloc::Global;
 
@@ -18,51 +18,39 @@ use std::alloc::Global;
 pub struct FunctionCase {
     pub name: String,
     pub sizes: CaseSizes,
-    values: Vec<FunctionValue>,
-}
-
-// A published value of a function.
-#[derive(Drop)]
-struct FunctionValue {
-    function: Function,
-    part: Part,
-    bytes: Vec<u8>,
+    values: Vec<Value<FunctionLabel>>,
 }
 
 impl FunctionCase {
     // A case of which only the heading is read, as Case #1a: RES_sz=32, .. tells its sizes.
     pub fn new(heap: Global, heading: &str) -> Result<FunctionCase, Fault> {
-        let Some((name, sizes)) = heading.split_once(": ") else {
-            return Err(Fault::Sizes);
-        };
+        let (name, sizes) = heading.split_once(": ").ok_or(Fault::Sizes)?;
         Ok(FunctionCase {
             name: String::from_str(heap, name)?,
-            sizes: CaseSizes::told(sizes)?,
+            sizes: sizes.parse()?,
             values: Vec::new(heap),
         })
     }
 
     // Takes a value. Those of f5** come after the MAC-S that it carries.
-    pub fn take(&mut self, function: Function, part: Part, bytes: Vec<u8>) -> Result<(), Fault> {
-        if matches!(function, Function::F5StarStar) && self.output(Function::F1Star).is_none() {
-            return Err(Fault::Order);
+    pub fn take(&mut self, label: FunctionLabel, bytes: Vec<u8>) -> Result<(), Fault> {
+        if label.function == Function::F5StarStar {
+            self.mac_s().map_err(|_| Fault::Order)?;
         }
-        self.values.push(FunctionValue {
-            function,
-            part,
-            bytes,
-        })?;
+        self.values.push(Value { label, bytes })?;
         Ok(())
     }
 
     // The published output of a function.
     pub fn output(&self, function: Function) -> Option<&[u8]> {
-        for value in &self.values {
-            if matches!(value.part, Part::Output) && value.function.index() == function.index() {
-                return Some(&value.bytes);
-            }
-        }
-        None
+        let label = FunctionLabel {
+            function,
+            part: Part::Output,
+        };
+        self.values
+            .iter()
+            .find(|value| value.label == label)
+            .map(|value| value.bytes.as_slice())
     }
 
     // The MAC-S of the case, which f5** carries.
@@ -77,15 +65,14 @@ impl FunctionCase {
 
     // A function's output, of its answer block.
     pub fn cut<'a>(&self, function: Function, answer: &'a [u8]) -> Result<&'a [u8], Fault>
-        ensures { elim result [ Ok part ↦ part.now ≡ take (size_of self.now.sizes function) answer.now | Err _ ↦ Unit ] }
+        ensures { IfOk result (λ part. part.now ≡ take (size_of self.now.sizes function) answer.now) }
     {
-        let part = cut(function.index(), self.sizes.of(function), answer)?;
-        Ok(part)
+        Ok(cut(function.index(), self.sizes.of(function), answer)?)
     }
 
     // Compares each published value of the case.
     pub fn compare(&self, opened: &Opened) -> Result<Tally, Fault>
-        ensures { elim result [ Ok tally ↦ tally.compared ≡ more (vec_len self.now.values) 0 | Err _ ↦ Unit ] }
+        ensures { IfOk result (λ tally. tally.compared ≡ more (vec_len self.now.values) 0) }
     {
         let mac_s = self.mac_s()?;
         let mut tally = Tally::new();
@@ -96,7 +83,7 @@ impl FunctionCase {
     }
 }
 
-impl FunctionValue {
+impl Value<FunctionLabel> {
     // Compares the value with what the exported calls make of it, at a case's sizes and its MAC-S.
     fn compare(
         &self,
@@ -105,12 +92,12 @@ impl FunctionValue {
         mac_s: &[u8],
         tally: &mut Tally,
     ) -> Result<bool, Fault>
-        ensures { elim result [ Ok agrees ↦ Compared tally.old (value_of opened.now sizes mac_s.now self.now.function self.now.part) self.now.bytes.items agrees tally.new | Err _ ↦ Unit ] }
+        ensures { IfOk result (λ agrees. Compared tally.old (value_of opened.now sizes mac_s.now self.now.label.function self.now.label.part) self.now.bytes.items agrees tally.new) }
     {
-        let function = self.function;
+        let FunctionLabel { function, part } = self.label;
         let size = sizes.of(function);
         let trace = opened.trace(function, size, mac_s)?;
-        let agrees = match self.part {
+        let agrees = match part {
             Part::Traced(place) => tally.compare(&trace.block(place), &self.bytes),
             Part::MacS => tally.compare(mac_s, &self.bytes),
             Part::Output => {

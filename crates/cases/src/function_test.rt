@@ -8,8 +8,9 @@ use super::inputs::Inputs;
 use super::label::{Input, Label};
 use super::opc_block::OpcBlock;
 use super::opened::Opened;
-use super::print::test_name;
-use published::{Line, Tally, bytes_of, line_of};
+use super::print::{Section, sections_of, test_name};
+use super::value::Value;
+use published::Tally;
 use std::alloc::Global;
 
 // A published test of the functions: its inputs, the blocks of its OPc, its cases.
@@ -17,15 +18,8 @@ use std::alloc::Global;
 pub struct FunctionTest {
     pub name: String,
     inputs: Inputs,
-    opc: Vec<OpcValue>,
+    opc: Vec<Value<OpcBlock>>,
     pub cases: Vec<FunctionCase>,
-}
-
-// A published block on the way from OP to OPc.
-#[derive(Drop)]
-struct OpcValue {
-    block: OpcBlock,
-    bytes: Vec<u8>,
 }
 
 impl FunctionTest {
@@ -40,19 +34,6 @@ impl FunctionTest {
         })
     }
 
-    // Takes a value: the inputs come first, then the blocks of OPc, then each case with its own.
-    fn take(&mut self, label: &str, bytes: Vec<u8>) -> Result<(), Fault> {
-        match Label::named(label) {
-            Some(Label::Input(input)) => self.take_input(input, bytes),
-            Some(Label::Opc(block)) => self.take_opc(block, bytes),
-            Some(Label::Function(function, part)) => match self.cases.last_mut() {
-                Some(case) => case.take(function, part, bytes),
-                None => Err(Fault::Order),
-            },
-            None => Err(Fault::Label),
-        }
-    }
-
     fn take_input(&mut self, input: Input, bytes: Vec<u8>) -> Result<(), Fault> {
         if !self.opc.is_empty() || !self.cases.is_empty() {
             return Err(Fault::Order);
@@ -60,11 +41,11 @@ impl FunctionTest {
         self.inputs.take(input, bytes)
     }
 
-    fn take_opc(&mut self, block: OpcBlock, bytes: Vec<u8>) -> Result<(), Fault> {
-        if !self.inputs.are_complete() || !self.cases.is_empty() {
+    fn take_opc(&mut self, label: OpcBlock, bytes: Vec<u8>) -> Result<(), Fault> {
+        if self.inputs.whole().is_none() || !self.cases.is_empty() {
             return Err(Fault::Order);
         }
-        self.opc.push(OpcValue { block, bytes })?;
+        self.opc.push(Value { label, bytes })?;
         Ok(())
     }
 
@@ -85,48 +66,41 @@ impl FunctionTest {
     }
 }
 
-impl OpcValue {
+impl Value<OpcBlock> {
     // Compares the block with what the exported calls make of it.
     fn compare(&self, opened: &Opened, tally: &mut Tally) -> bool
-        ensures { Compared tally.old (opc_block_of opened.now self.now.block) self.now.bytes.items result tally.new }
+        ensures { Compared tally.old (opc_block_of opened.now self.now.label) self.now.bytes.items result tally.new }
     {
-        tally.compare(&opened.opc_block(self.block), &self.bytes)
+        tally.compare(&opened.opc_block(self.label), &self.bytes)
+    }
+}
+
+impl Section for FunctionTest {
+    // Begins a case of the test at hand, or another test.
+    fn begin(tests: &mut Vec<FunctionTest>, heap: Global, heading: &str) -> Result<(), Fault> {
+        if heading.starts_with("Case ") {
+            let test = tests.last_mut().ok_or(Fault::Order)?;
+            test.cases.push(FunctionCase::new(heap, heading)?)?;
+        } else {
+            tests.push(FunctionTest::new(heap, heading)?)?;
+        }
+        Ok(())
+    }
+
+    // The inputs come first, then the blocks of OPc, then each case with its own values.
+    fn take(&mut self, label: &str, bytes: Vec<u8>) -> Result<(), Fault> {
+        match label.parse()? {
+            Label::Input(input) => self.take_input(input, bytes),
+            Label::Opc(block) => self.take_opc(block, bytes),
+            Label::Function(label) => {
+                let case = self.cases.last_mut().ok_or(Fault::Order)?;
+                case.take(label, bytes)
+            }
+        }
     }
 }
 
 // The tests of the functions that a text prints.
 pub fn function_tests_of(heap: Global, text: &str) -> Result<Vec<FunctionTest>, Misread> {
-    let mut tests = Vec::new(heap);
-    for (i, line) in text.lines().enumerate() {
-        if let Err(fault) = take_line(heap, &mut tests, line) {
-            let line = i.saturating_add(1);
-            return Err(Misread { line, fault });
-        }
-    }
-    Ok(tests)
-}
-
-// Takes a line: it begins another part, or has a value of the test at hand.
-fn take_line(heap: Global, tests: &mut Vec<FunctionTest>, line: &str) -> Result<(), Fault> {
-    match line_of(line) {
-        Line::Heading(heading) => begin(heap, tests, heading),
-        Line::Value(label, hex) => match tests.last_mut() {
-            Some(test) => test.take(label, bytes_of(heap, hex)?),
-            None => Err(Fault::Order),
-        },
-        Line::Blank => Ok(()),
-    }
-}
-
-// Begins what a heading announces: a case of the test at hand, or another test.
-fn begin(heap: Global, tests: &mut Vec<FunctionTest>, heading: &str) -> Result<(), Fault> {
-    if !heading.starts_with("Case ") {
-        tests.push(FunctionTest::new(heap, heading)?)?;
-        return Ok(());
-    }
-    match tests.last_mut() {
-        Some(test) => test.cases.push(FunctionCase::new(heap, heading)?)?,
-        None => return Err(Fault::Order),
-    }
-    Ok(())
+    sections_of(heap, text)
 }

@@ -3,26 +3,38 @@ use super::label::Input;
 use super::print::put_once;
 use std::alloc::Global;
 
-// The inputs of a test, as far as they are read; c0 to c7 stand end to end.
+// The inputs of a test, as far as they are read.
 #[derive(Drop)]
 pub struct Inputs {
-    pub op: Vec<u8>,
-    pub key: Vec<u8>,
-    pub rand: Vec<u8>,
-    pub sqn: Vec<u8>,
-    pub amf: Vec<u8>,
-    pub constants: Vec<u8>,
+    pub op: Option<Vec<u8>>,
+    pub key: Option<Vec<u8>>,
+    pub rand: Option<Vec<u8>>,
+    pub sqn: Option<Vec<u8>>,
+    pub amf: Option<Vec<u8>>,
+    // c0 to c7
+    pub constants: Vec<[u8; 16]>,
+}
+
+// All inputs of a test.
+#[derive(Clone, Copy)]
+pub struct Whole<'a> {
+    pub op: &'a Vec<u8>,
+    pub key: &'a Vec<u8>,
+    pub rand: &'a Vec<u8>,
+    pub sqn: &'a Vec<u8>,
+    pub amf: &'a Vec<u8>,
+    pub constants: &'a [[u8; 16]; 8],
 }
 
 impl Inputs {
     // Nothing read yet.
     pub fn new(heap: Global) -> Inputs {
         Inputs {
-            op: Vec::new(heap),
-            key: Vec::new(heap),
-            rand: Vec::new(heap),
-            sqn: Vec::new(heap),
-            amf: Vec::new(heap),
+            op: None,
+            key: None,
+            rand: None,
+            sqn: None,
+            amf: None,
             constants: Vec::new(heap),
         }
     }
@@ -41,20 +53,23 @@ impl Inputs {
 
     // Takes a constant. They come in their order, each of 16 bytes.
     fn append_constant(&mut self, n: usize, value: &[u8]) -> Result<(), Fault> {
-        if value.len() != 16 || self.constants.len() / 16 != n {
+        let constant = <[u8; 16]>::try_from(value).map_err(|_| Fault::Order)?;
+        if self.constants.len() != n {
             return Err(Fault::Order);
         }
-        self.constants.extend_from_slice(value)?;
+        self.constants.push(constant)?;
         Ok(())
     }
 
-    // Whether every input is read.
-    pub fn are_complete(&self) -> bool {
-        !self.op.is_empty()
-            && !self.key.is_empty()
-            && !self.rand.is_empty()
-            && !self.sqn.is_empty()
-            && !self.amf.is_empty()
-            && self.constants.len() == 128
+    // The inputs, once each is read.
+    pub fn whole(&self) -> Option<Whole<'_>> {
+        Some(Whole {
+            op: self.op.as_ref()?,
+            key: self.key.as_ref()?,
+            rand: self.rand.as_ref()?,
+            sqn: self.sqn.as_ref()?,
+            amf: self.amf.as_ref()?,
+            constants: self.constants.as_slice().try_into().ok()?,
+        })
     }
 }

@@ -1,11 +1,12 @@
-ghost use Rattle.std.specs.Prelude.{Ok, Err};
-ghost use Rattle.cases.specs.KernelCases.{Runs};
+ghost use Rattle.std.specs.Prelude.{◌≡◌, IfOk};
+ghost use Rattle.published.specs.Comparison.{Compared};
+ghost use Rattle.cases.specs.KernelCases.{Runs, read};
 
 use super::fault::{Fault, Misread};
-use super::print::{put_once, test_name};
+use super::print::{Section, put_once, sections_of, test_name};
 use block::fill_block;
 use kernel::Kernel;
-use published::{Line, Tally, bytes_of, line_of};
+use published::Tally;
 use rijndael::Rijndael;
 use std::alloc::Global;
 
@@ -13,22 +14,68 @@ use std::alloc::Global;
 #[derive(Drop)]
 pub struct KernelCase {
     pub name: String,
-    key: Vec<u8>,
-    x: Vec<u8>,
-    y: Vec<u8>,
+    key: Option<Vec<u8>>,
+    x: Option<Vec<u8>>,
+    y: Option<Vec<u8>>,
 }
 
-// What the kernel made of a case: both blocks, and whether they are the published ones.
+// A block that the kernel made, and whether it is the published one.
+#[derive(Clone, Copy)]
+pub struct Checked {
+    pub block: [u8; 32],
+    pub agrees: bool,
+}
+
+// What the kernel made of a case: Y by forth, and X by back.
 #[derive(Clone, Copy)]
 pub struct KernelRun {
-    pub y: [u8; 32],
-    pub forth_agrees: bool,
-    pub x: [u8; 32],
-    pub back_agrees: bool,
+    pub forth: Checked,
+    pub back: Checked,
+}
+
+impl Checked {
+    // Compares a block with the published one.
+    fn new(block: [u8; 32], published: &[u8], tally: &mut Tally) -> Checked
+        ensures same { result.block ≡ block }
+        ensures compared { Compared tally.old block published.now result.agrees tally.new }
+    {
+        Checked {
+            block,
+            agrees: tally.compare(&block, published),
+        }
+    }
 }
 
 impl KernelCase {
-    // Takes a value of the case.
+    // Runs the case forth and back, and compares both blocks.
+    pub fn run(&self, tally: &mut Tally) -> Result<KernelRun, Fault>
+        ensures { IfOk result (λ run. Runs (read self.now.key) (read self.now.x) (read self.now.y) tally.old run tally.new) }
+    {
+        let (Some(key), Some(x), Some(y)) = (&self.key, &self.x, &self.y) else {
+            return Err(Fault::Missing);
+        };
+        if x.len() != 32 || y.len() != 32 {
+            return Err(Fault::Missing);
+        }
+        let kernel = Rijndael::new(key)?;
+        let forth = Checked::new(kernel.encrypt(fill_block(x)), y, tally);
+        let back = Checked::new(kernel.decrypt(fill_block(y)), x, tally);
+        Ok(KernelRun { forth, back })
+    }
+}
+
+// Each heading begins another case, with KEY, X and Y.
+impl Section for KernelCase {
+    fn begin(cases: &mut Vec<KernelCase>, heap: Global, heading: &str) -> Result<(), Fault> {
+        cases.push(KernelCase {
+            name: String::from_str(heap, test_name(heading)?)?,
+            key: None,
+            x: None,
+            y: None,
+        })?;
+        Ok(())
+    }
+
     fn take(&mut self, label: &str, value: Vec<u8>) -> Result<(), Fault> {
         match label {
             "KEY" => put_once(&mut self.key, value),
@@ -37,54 +84,9 @@ impl KernelCase {
             _ => Err(Fault::Label),
         }
     }
-
-    // Runs the case forth and back, and compares both blocks.
-    pub fn run(&self, tally: &mut Tally) -> Result<KernelRun, Fault>
-        ensures { elim result [ Ok run ↦ Runs self.now.key.items self.now.x.items self.now.y.items tally.old run tally.new | Err _ ↦ Unit ] }
-    {
-        if self.x.len() != 32 || self.y.len() != 32 {
-            return Err(Fault::Missing);
-        }
-        let kernel = Rijndael::new(&self.key)?;
-        let y = kernel.encrypt(fill_block(&self.x));
-        let forth_agrees = tally.compare(&y, &self.y);
-        let x = kernel.decrypt(fill_block(&self.y));
-        let back_agrees = tally.compare(&x, &self.x);
-        Ok(KernelRun {
-            y,
-            forth_agrees,
-            x,
-            back_agrees,
-        })
-    }
 }
 
-// The cases of the kernel that a text prints: a heading, then KEY, X and Y.
+// The cases of the kernel that a text prints.
 pub fn kernel_cases_of(heap: Global, text: &str) -> Result<Vec<KernelCase>, Misread> {
-    let mut cases = Vec::new(heap);
-    for (i, line) in text.lines().enumerate() {
-        if let Err(fault) = take_line(heap, &mut cases, line) {
-            let line = i.saturating_add(1);
-            return Err(Misread { line, fault });
-        }
-    }
-    Ok(cases)
-}
-
-// Takes a line: it begins another case, or has a value of the case at hand.
-fn take_line(heap: Global, cases: &mut Vec<KernelCase>, line: &str) -> Result<(), Fault> {
-    match line_of(line) {
-        Line::Heading(heading) => cases.push(KernelCase {
-            name: String::from_str(heap, test_name(heading)?)?,
-            key: Vec::new(heap),
-            x: Vec::new(heap),
-            y: Vec::new(heap),
-        })?,
-        Line::Value(label, hex) => match cases.last_mut() {
-            Some(case) => case.take(label, bytes_of(heap, hex)?)?,
-            None => return Err(Fault::Order),
-        },
-        Line::Blank => {}
-    }
-    Ok(())
+    sections_of(heap, text)
 }

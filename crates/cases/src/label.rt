@@ -1,13 +1,24 @@
-use super::functions::Function;
+use super::fault::Fault;
+use super::labelled::with_label;
 use super::opc_block::OpcBlock;
+use super::outputs::output_label;
 use super::traced::Traced;
+use milenage::Function;
+use std::str::FromStr;
 
 // What a value of a test is.
 #[derive(Clone, Copy)]
 pub enum Label {
     Input(Input),
     Opc(OpcBlock),
-    Function(Function, Part),
+    Function(FunctionLabel),
+}
+
+// What a value of a function is, and of which.
+#[derive(Clone, Copy, PartialEq, Eq)]
+pub struct FunctionLabel {
+    pub function: Function,
+    pub part: Part,
 }
 
 // An input of a test.
@@ -23,45 +34,45 @@ pub enum Input {
 }
 
 // What a value of a function is: a block on its way, the MAC-S that it carries, its output.
-#[derive(Clone, Copy)]
+#[derive(Clone, Copy, PartialEq, Eq)]
 pub enum Part {
     Traced(Traced),
     MacS,
     Output,
 }
 
-impl Label {
-    // What a label in print means.
-    pub fn named(text: &str) -> Option<Label> {
-        if let Some(input) = Input::named(text) {
-            return Some(Label::Input(input));
-        }
-        if let Some(block) = OpcBlock::named(text) {
-            return Some(Label::Opc(block));
-        }
+// What a label in print means.
+impl FromStr for Label {
+    type Err = Fault;
+
+    fn from_str(text: &str) -> Result<Label, Fault> {
+        Input::named(text)
+            .map(Label::Input)
+            .or_else(|| with_label(&OpcBlock::ALL, text).map(Label::Opc))
+            .or_else(|| FunctionLabel::named(text).map(Label::Function))
+            .ok_or(Fault::Label)
+    }
+}
+
+impl FunctionLabel {
+    // The label of a function's value, as f1:PRF_in1.
+    fn named(text: &str) -> Option<FunctionLabel> {
         let (name, rest) = text.split_once(':')?;
-        let function = Function::named(name)?;
+        let function = with_label(&Function::ALL, name)?;
         let part = Part::named(function, rest)?;
-        Some(Label::Function(function, part))
+        Some(FunctionLabel { function, part })
     }
 }
 
 impl Input {
     fn named(text: &str) -> Option<Input> {
-        match text {
-            "OP" => Some(Input::Op),
-            "KEY" => Some(Input::Key),
-            "RAND" => Some(Input::Rand),
-            "SQN" => Some(Input::Sqn),
-            "AMF" => Some(Input::Amf),
-            "c0" => Some(Input::Constant(0)),
-            "c1" => Some(Input::Constant(1)),
-            "c2" => Some(Input::Constant(2)),
-            "c3" => Some(Input::Constant(3)),
-            "c4" => Some(Input::Constant(4)),
-            "c5" => Some(Input::Constant(5)),
-            "c6" => Some(Input::Constant(6)),
-            "c7" => Some(Input::Constant(7)),
+        match text.as_bytes() {
+            b"OP" => Some(Input::Op),
+            b"KEY" => Some(Input::Key),
+            b"RAND" => Some(Input::Rand),
+            b"SQN" => Some(Input::Sqn),
+            b"AMF" => Some(Input::Amf),
+            [b'c', digit @ b'0'..=b'7'] => Some(Input::Constant(usize::from(*digit - b'0'))),
             _ => None,
         }
     }
@@ -70,10 +81,10 @@ impl Input {
 impl Part {
     // What stands behind a function's name. Only f5** has a MAC_S that is no output.
     fn named(function: Function, text: &str) -> Option<Part> {
-        if text == function.output() {
+        if text == output_label(function) {
             return Some(Part::Output);
         }
-        match (function, Traced::named(text)) {
+        match (function, with_label(Traced::published(), text)) {
             (_, Some(place)) => Some(Part::Traced(place)),
             (Function::F5StarStar, None) if text == "MAC_S" => Some(Part::MacS),
             _ => None,

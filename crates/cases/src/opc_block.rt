@@ -1,6 +1,7 @@
-ghost use Rattle.std.specs.Prelude.{◌≡◌, Some, None};
+ghost use Rattle.std.specs.Prelude.{◌≡◌};
 ghost use Rattle.cases.specs.Opc.{opc_block, label_of};
 
+use super::labelled::Labelled;
 use block::xor_blocks;
 use kernel::Kernel;
 
@@ -14,19 +15,10 @@ pub enum OpcBlock {
     Opc,
 }
 
-impl OpcBlock {
-    pub const ALL: [OpcBlock; 5] = [
-        OpcBlock::FirstOutput,
-        OpcBlock::Version,
-        OpcBlock::SecondInput,
-        OpcBlock::SecondOutput,
-        OpcBlock::Opc,
-    ];
+impl Labelled for OpcBlock {
+    ghost label_text = { label_of };
 
-    // The label in print.
-    pub fn label(self) -> &'static str
-        ensures { result.now ≡ label_of self }
-    {
+    fn label(self) -> &'static str {
         match self {
             OpcBlock::FirstOutput => "PRF_K(OP)",
             OpcBlock::Version => "V",
@@ -35,18 +27,16 @@ impl OpcBlock {
             OpcBlock::Opc => "OPc",
         }
     }
+}
 
-    // The block of a label.
-    pub fn named(label: &str) -> Option<OpcBlock>
-        ensures { elim result [ Some block ↦ label_of block ≡ label.now | None ↦ Unit ] }
-    {
-        for block in OpcBlock::ALL {
-            if block.label() == label {
-                return Some(block);
-            }
-        }
-        None
-    }
+impl OpcBlock {
+    pub const ALL: [OpcBlock; 5] = [
+        OpcBlock::FirstOutput,
+        OpcBlock::Version,
+        OpcBlock::SecondInput,
+        OpcBlock::SecondOutput,
+        OpcBlock::Opc,
+    ];
 
     // The block that a kernel, an OP and their OPc come to: what OPc went through is back of OPc ⊕ OP.
     pub fn between<K: Kernel>(self, kernel: &K, op: [u8; 32], opc: [u8; 32]) -> [u8; 32]

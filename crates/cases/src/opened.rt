@@ -1,28 +1,15 @@
-ghost use Rattle.std.specs.Prelude.{◌≡◌, Ok, Err};
+ghost use Rattle.std.specs.Prelude.{◌≡◌, IfOk};
 ghost use Rattle.cases.specs.Functions.{carried_of};
 ghost use Rattle.cases.specs.Opened.{traced_by, opc_block_of};
 
 use super::fault::Fault;
-use super::functions::Function;
-use super::inputs::Inputs;
+use super::inputs::{Inputs, Whole};
 use super::opc_block::OpcBlock;
 use super::traced::Trace;
-use aka::{NetworkEnd, ResyncMask, Sizes};
+use aka::{NetworkEnd, PairEnd, Sizes};
 use block::fill_block;
-use milenage::{derive_opc, standard_name};
+use milenage::{Function, derive_opc, standard_name};
 use rijndael::Rijndael;
-
-// The smallest sizes.
-const SIZES: Sizes = Sizes {
-    rand: 16,
-    sqn: 6,
-    ak: 6,
-    mac: 8,
-    res: 4,
-    ck: 16,
-    ik: 16,
-    resync: ResyncMask::F5Star,
-};
 
 // A test whose OPc is derived, ready to be asked.
 #[derive(Drop)]
@@ -40,26 +27,31 @@ pub struct Opened {
 impl Opened {
     // Derives OPc from the inputs of a test.
     pub fn new(inputs: &Inputs) -> Result<Opened, Fault> {
-        if !inputs.are_complete() {
-            return Err(Fault::Missing);
-        }
-        let kernel = Rijndael::new(&inputs.key)?;
-        let opc = derive_opc(&kernel, &inputs.op, standard_name(), &mut [0; 96])?;
+        let Whole {
+            op,
+            key,
+            rand,
+            sqn,
+            amf,
+            constants,
+        } = inputs.whole().ok_or(Fault::Missing)?;
+        let kernel = Rijndael::new(key)?;
+        let opc = derive_opc(&kernel, op, standard_name(), &mut [0; 96])?;
         let end = NetworkEnd::open(
-            Rijndael::new(&inputs.key)?,
+            Rijndael::new(key)?,
             &opc,
-            &inputs.constants,
-            SIZES,
+            constants.as_flattened(),
+            Sizes::SMALLEST,
             &[0; 6],
         )?;
-        let mut authenticated = inputs.amf.clone()?;
-        authenticated.extend_from_slice(&inputs.sqn)?;
+        let mut authenticated = amf.clone()?;
+        authenticated.extend_from_slice(sqn)?;
         Ok(Opened {
             kernel,
             end,
-            op: fill_block(&inputs.op),
+            op: fill_block(op),
             opc,
-            rand: inputs.rand.clone()?,
+            rand: rand.clone()?,
             authenticated,
         })
     }
@@ -73,21 +65,18 @@ impl Opened {
 
     // The six blocks of a function at an output size.
     pub fn trace(&self, function: Function, size: usize, mac_s: &[u8]) -> Result<Trace, Fault>
-        ensures { elim result [ Ok trace ↦ trace.blocks ≡ traced_by self.now function size mac_s.now | Err _ ↦ Unit ] }
+        ensures { IfOk result (λ trace. trace.blocks ≡ traced_by self.now function size mac_s.now) }
     {
         let mut blocks = [0; 192];
-        let outcome = self.end.trace(
+        self.end.trace(
             function.index(),
             &self.rand,
             size,
             carried(function, &self.authenticated, mac_s),
             &mut blocks,
             &mut [0; 96],
-        );
-        match outcome {
-            Ok(()) => Ok(Trace { blocks }),
-            Err(e) => Err(Fault::from(e)),
-        }
+        )?;
+        Ok(Trace { blocks })
     }
 }
 

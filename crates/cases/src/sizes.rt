@@ -2,7 +2,8 @@ ghost use Rattle.std.specs.Prelude.{◌≡◌};
 ghost use Rattle.cases.specs.Functions.{size_of};
 
 use super::fault::Fault;
-use super::functions::Function;
+use milenage::Function;
+use std::str::FromStr;
 
 // The sizes of the outputs of a case, in bytes.
 #[derive(Clone, Copy)]
@@ -14,27 +15,27 @@ pub struct CaseSizes {
     pub ak: usize,
 }
 
-impl CaseSizes {
-    // The sizes that a text such as RES_sz=32, CK_sz=32, IK_sz=32, MAC_sz=32, AK_sz=12 tells.
-    pub fn told(text: &str) -> Result<CaseSizes, Fault> {
-        let mut words = text.split(", ");
-        let res = size(words.next(), "RES_sz")?;
-        let ck = size(words.next(), "CK_sz")?;
-        let ik = size(words.next(), "IK_sz")?;
-        let mac = size(words.next(), "MAC_sz")?;
-        let ak = size(words.next(), "AK_sz")?;
-        if words.next().is_some() {
-            return Err(Fault::Sizes);
-        }
-        Ok(CaseSizes {
-            res,
-            ck,
-            ik,
-            mac,
-            ak,
-        })
-    }
+// The sizes that a text such as RES_sz=32, CK_sz=32, IK_sz=32, MAC_sz=32, AK_sz=12 tells.
+impl FromStr for CaseSizes {
+    type Err = Fault;
 
+    fn from_str(text: &str) -> Result<CaseSizes, Fault> {
+        let mut words = text.split(", ");
+        let sizes = CaseSizes {
+            res: size(words.next(), "RES_sz=")?,
+            ck: size(words.next(), "CK_sz=")?,
+            ik: size(words.next(), "IK_sz=")?,
+            mac: size(words.next(), "MAC_sz=")?,
+            ak: size(words.next(), "AK_sz=")?,
+        };
+        match words.next() {
+            None => Ok(sizes),
+            Some(_) => Err(Fault::Sizes),
+        }
+    }
+}
+
+impl CaseSizes {
     // The size of a function's output.
     pub fn of(self, function: Function) -> usize
         ensures { result ≡ size_of self function }
@@ -51,11 +52,8 @@ impl CaseSizes {
 
 // One size, as RES_sz=32 tells it.
 fn size(word: Option<&str>, name: &str) -> Result<usize, Fault> {
-    match word.unwrap_or("").split_once('=') {
-        Some((label, digits)) if label == name => match digits.parse::<usize>() {
-            Ok(bytes) => Ok(bytes),
-            Err(_) => Err(Fault::Sizes),
-        },
-        _ => Err(Fault::Sizes),
-    }
+    word.and_then(|word| word.strip_prefix(name))
+        .ok_or(Fault::Sizes)?
+        .parse()
+        .map_err(|_| Fault::Sizes)
 }

@@ -1,8 +1,10 @@
-ghost use Rattle.std.specs.Prelude.{◌≡◌, Some, None};
+ghost use Rattle.std.specs.Prelude.{◌≡◌};
 ghost use Rattle.cases.specs.Places.{start_of, placed, label_of};
 
+use super::labelled::Labelled;
+
 // The place of a block in a trace: input and output of the first kernel run, IN, input and output of the second, the answer block.
-#[derive(Clone, Copy)]
+#[derive(Clone, Copy, PartialEq, Eq)]
 pub enum Traced {
     FirstInput,
     FirstOutput,
@@ -10,6 +12,22 @@ pub enum Traced {
     SecondInput,
     SecondOutput,
     Answer,
+}
+
+impl Labelled for Traced {
+    ghost label_text = { label_of };
+
+    // The answer block is not published whole.
+    fn label(self) -> &'static str {
+        match self {
+            Traced::FirstInput => "PRF_in1",
+            Traced::FirstOutput => "PRF_out1",
+            Traced::In => "IN",
+            Traced::SecondInput => "PRF_in2",
+            Traced::SecondOutput => "PRF_out2",
+            Traced::Answer => "block",
+        }
+    }
 }
 
 impl Traced {
@@ -22,56 +40,21 @@ impl Traced {
         Traced::Answer,
     ];
 
-    const PUBLISHED: [Traced; 5] = [
-        Traced::FirstInput,
-        Traced::FirstOutput,
-        Traced::In,
-        Traced::SecondInput,
-        Traced::SecondOutput,
-    ];
+    // The places whose blocks are published: all but the answer block.
+    pub(crate) fn published() -> &'static [Traced] {
+        &Traced::ALL[0..5]
+    }
 
-    // Where the block begins.
+    // Where the block begins: the blocks stand in the order of their places.
     fn start(self) -> usize
         ensures { result ≡ start_of self }
     {
-        match self {
-            Traced::FirstInput => 0,
-            Traced::FirstOutput => 32,
-            Traced::In => 64,
-            Traced::SecondInput => 96,
-            Traced::SecondOutput => 128,
-            Traced::Answer => 160,
-        }
-    }
-
-    // What the block is called in print. The answer block is not published whole.
-    pub fn label(self) -> &'static str
-        ensures { result.now ≡ label_of self }
-    {
-        match self {
-            Traced::FirstInput => "PRF_in1",
-            Traced::FirstOutput => "PRF_out1",
-            Traced::In => "IN",
-            Traced::SecondInput => "PRF_in2",
-            Traced::SecondOutput => "PRF_out2",
-            Traced::Answer => "block",
-        }
-    }
-
-    // The published block of a label.
-    pub fn named(label: &str) -> Option<Traced>
-        ensures { elim result [ Some place ↦ label_of place ≡ label.now | None ↦ Unit ] }
-    {
-        for place in Traced::PUBLISHED {
-            if place.label() == label {
-                return Some(place);
-            }
-        }
-        None
+        self as usize * 32
     }
 }
 
-// The six blocks of a computation, end to end.
+// The six blocks of a computation.
+// End to end, as the exported call writes them: of six blocks lent by as_flattened_mut std does not say what they end as.
 #[derive(Clone, Copy)]
 pub struct Trace {
     pub blocks: [u8; 192],

@@ -25,7 +25,8 @@ impl Kernel for Complement {
         xor_blocks(x, [0xff; 32])
     }
 
+    // Turning every bit over undoes itself.
     fn decrypt(&self, x: [u8; 32]) -> [u8; 32] {
-        xor_blocks(x, [0xff; 32])
+        self.encrypt(x)
     }
 }

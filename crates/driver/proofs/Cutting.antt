@@ -1,5 +1,5 @@
 -- What a call wrote, once its buffers are cut.
-use Rattle.std.proofs.Common.{◌≡◌, ℕ, ◌+◌, ◌<◌, Bool, true, false, eqb, List, [], ◌∷◌, length, take, drop, Some, vec_items, sym, refl, ap, ◌∙◌, subst, arith, length-append, take_at}
+use Rattle.std.proofs.Common.{◌≡◌, ℕ, ◌+◌, ◌<◌, Bool, true, false, eqb, List, [], ◌++◌, ap₂, length, take, drop, Some, sym, refl, ap, ◌∙◌, subst, arith, length-append, take_at}
 use Rattle.block.specs.Bytes.{AreBytes, IsBlock, over, ◌⊕◌, filled}
 use Rattle.block.proofs.ByteLaws.{length_⊕}
 use Rattle.aka.specs.Numbers.{exceeds}
@@ -9,9 +9,7 @@ use Rattle.milenage.specs.Blocks.{temp, trace_of}
 use Rattle.milenage.proofs.BlockLaws.{block_block}
 use Rattle.session.proofs.Asked.{Fine, asks}
 use Rattle.session.proofs.Agreeing.{trace_grounds, traced_by, trace_fine}
-use Rattle.block.specs.Refusals.{Ground, number}
-use Rattle.block.specs.declared.refusal.Refusal.{Refusal}
-use Rattle.block.specs.declared.refusal.Refusal.TheVariants.{Key, OperatorField, Constants, Name, Index, Size, Mask, Number, Rand, Amf, Carried, Buffer, Spent, Stale, Message, Mac, Behind}
+use Rattle.block.specs.Refusals.{Ground}
 use Rattle.aka.specs.Numbers.{next_number}
 use Rattle.aka.specs.Setup.{Setup, SoundSetup, keyed, f2, ak_star, mac_s}
 use Rattle.aka.specs.Tokens.{vector, answers, auts, vector_size, answers_size, auts_size, autn_number}
@@ -22,30 +20,15 @@ use Rattle.session.proofs.Refusing
 use Rattle.session.proofs.Asked
 use Rattle.session.proofs.Steps
 use Rattle.session.proofs.Counting
-use Rattle.driver.specs.declared.types.Answer.{Answer}
-use Rattle.driver.specs.Seen.{Made, yield_of}
 use Rattle.driver.specs.Called.{Wrote}
-
-none_written : (w : List ℕ) → [] ≡ over w [] → w ≡ []
-none_written [] h = refl
-none_written (x ∷ xs) h = cc
-
--- a call with no buffers
-pub silent_made : {S : Type 0} (d : Done S) (end : S) (a : Answer) (z : Yield) → Shows d z [] [] [] [] end
-    → yield_of a.yielded ≡ z → vec_items a.wrote ≡ [] → vec_items a.wrote_auts ≡ [] → Made d a end
-silent_made d end a z h i j k =
-    record {
-      told = i ∙ h.told;
-      wrote = j ∙ sym (none_written d.writes h.wrote);
-      wrote_auts = k ∙ sym (none_written d.writes_auts h.wrote_auts);
-      left = h.left;
-    }
 
 -- what was written at the front is what is left when the buffer is cut to its length
 pub cut : (w before after : List ℕ) (n : ℕ) → after ≡ over w before → length w ≡ n → take n after ≡ w
 cut w before after n h e = ap (take n) h ∙ take_at w (drop (length w) before) n e
 
--- ── challenge ──
+-- what is left of a buffer whose front was handed out, and that is then cut
+pub left : (out rest after : List ℕ) (room n m : ℕ) → length out ≡ room → m ≡ n → after ≡ take m (take room (out ++ rest)) → after ≡ take n out
+left out rest after room n m long same h = h ∙ ap₂ take same (take_at out rest room long)
 
 -- ── refusals write nothing ──
 
@@ -143,26 +126,6 @@ by_eqb : (m n : ℕ) (P : Type 0) → (m ≡ n → P) → ((m ≡ n → ⊥) →
 by_eqb m n P f g =
     let Q : Bool → Type 0 = λ b. eqb m n ≡ b → P in
     (elim (eqb m n) as Q [ true ↦ (λ e. f (eqb-true m n e)) | false ↦ (λ e. g (λ d. absurd (true≢false (sym (eq-eqb m n d) ∙ e)))) ]) refl
-
--- the number of a refusal tells it
-pub only_behind : (e : Refusal) → number e ≡ 17 → e ≡ Behind
-only_behind Key h = absurd (omega arith)
-only_behind OperatorField h = absurd (omega arith)
-only_behind Constants h = absurd (omega arith)
-only_behind Name h = absurd (omega arith)
-only_behind Index h = absurd (omega arith)
-only_behind Size h = absurd (omega arith)
-only_behind Mask h = absurd (omega arith)
-only_behind Number h = absurd (omega arith)
-only_behind Rand h = absurd (omega arith)
-only_behind Amf h = absurd (omega arith)
-only_behind Carried h = absurd (omega arith)
-only_behind Buffer h = absurd (omega arith)
-only_behind Spent h = absurd (omega arith)
-only_behind Stale h = absurd (omega arith)
-only_behind Message h = absurd (omega arith)
-only_behind Mac h = absurd (omega arith)
-only_behind Behind h = refl
 
 -- what each answer of a receive says of what is written
 record Told (s : Setup) (x : Done (List ℕ)) : Type 0 where

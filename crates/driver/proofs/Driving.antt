@@ -1,5 +1,6 @@
 -- Turn after turn.
-use Rattle.std.proofs.Common.{◌≡◌, ℕ, suc, List, [], ◌∷◌, ◌++◌, Some, None, sym, refl, ap, ◌∙◌, subst, ap₂, append_assoc}
+use Rattle.std.proofs.Common.{MutBor, ◌≡◌, ℕ, suc, List, [], ◌∷◌, ◌++◌, Some, None, sym, refl, ap, ◌∙◌, subst, ap₂, append_assoc}
+use Rattle.std.proofs.lemmas.List.{append-nil}
 use Rattle.aka.specs.Setup.{Setup}
 use Rattle.aka.specs.States.{Network}
 use Rattle.aka.specs.Calls.{does_lapse}
@@ -7,14 +8,14 @@ use Rattle.session.specs.Log.{Pair, Call, lapse, Entry, does, Session, after}
 use Rattle.session.proofs.Sessions
 use Rattle.driver.specs.Seen.{pair_at}
 use Rattle.driver.specs.Driven.{Turn, entry_at, turn, lapses, Choices, Driven, Leads}
+use Rattle.aka.specs.Views.{network_setup, card_setup, card_number}
+use Rattle.aka.specs.declared.card.CardEnd.{CardEnd}
+use Rattle.driver.specs.declared.run.Run.{Run}
 use Rattle.driver.specs.Called.{Turned}
+use Rattle.driver.specs.Runs.{Forth, SameEnds, LeadsOn, LapsesTickets, LapsesEnd, LapsesNoted, network_in, pair_in, held_in, log_in}
 
 module _ (s t : Setup) where
   -- ── sessions end to end ──
-
-  append_none : (l : List Entry) → l ++ [] ≡ l
-  append_none [] = refl
-  append_none (x ∷ xs) = ap (λ (m : List Entry). x ∷ m) (append_none xs)
 
   pub leads_append : (p q r : Pair) (xs ys : List Entry) → Leads s t p xs q → Leads s t q ys r → Leads s t p (xs ++ ys) r
   leads_append p q r xs ys h k =
@@ -65,9 +66,7 @@ module _ (s t : Setup) where
           Some c,
           next,
           h,
-          subst (λ (l : List Entry). Driven chooses s t n next v.pair v.held l last final) u.log_is
-              (subst (λ (x : Pair). Driven chooses s t n next x v.held more last final) u.pair_is
-              (subst (λ (k : List ℕ). Driven chooses s t n next q k more last final) u.held_is d)),
+          rw (u.pair_is, u.held_is, u.log_is) at d,
         )
 
     -- what the turns left make, all the turns make
@@ -82,53 +81,54 @@ module _ (s t : Setup) where
 
   -- ── one lapse more ──
 
-  module _ (k : List ℕ) where
-    pub ends_more : (before end : Network) (n : ℕ) (ns : List ℕ) → end ≡ (does_lapse before n).after
-        → after s t (pair_at end k) (lapses s t (pair_at end k) ns) ≡ after s t (pair_at before k) (lapses s t (pair_at before k) (n ∷ ns))
-    ends_more before end n ns h =
-        let p = pair_at before k in
-        ap (λ (x : Network). after s t (pair_at x k) (lapses s t (pair_at x k) ns)) h
-        ∙ sym (Sessions.after_cons s t p (entry_at s t p (lapse n)) (lapses s t (does s t p (lapse n)).after ns))
-        ∙ ap (after s t p) (sym (lapses_more p n ns))
+  module _ (k : List ℕ) (before end : Network) (n : ℕ) (held behind : List ℕ) (first : held ≡ n ∷ behind) (left : end ≡ (does_lapse before n).after) where
+    abbrev p : Pair
+    p = pair_at before k
 
-    pub notes_more : (before end : Network) (n : ℕ) (ns : List ℕ) (log more : List Entry) → end ≡ (does_lapse before n).after
-        → more ≡ log ++ entry_at s t (pair_at before k) (lapse n) ∷ []
-        → more ++ lapses s t (pair_at end k) ns ≡ log ++ lapses s t (pair_at before k) (n ∷ ns)
-    notes_more before end n ns log more h e =
-        let p = pair_at before k in
-        ap₂ (λ (l : List Entry) (x : Network). l ++ lapses s t (pair_at x k) ns) e h
-        ∙ append_assoc log (entry_at s t p (lapse n) ∷ []) (lapses s t (does s t p (lapse n)).after ns)
-        ∙ ap (λ (l : List Entry). log ++ l) (sym (lapses_more p n ns))
+    pub ends_more : after s t (pair_at end k) (lapses s t (pair_at end k) behind) ≡ after s t (pair_at before k) (lapses s t (pair_at before k) held)
+    ends_more =
+        ap (λ (x : Network). after s t (pair_at x k) (lapses s t (pair_at x k) behind)) left
+        ∙ sym (Sessions.after_cons s t p (entry_at s t p (lapse n)) (lapses s t (does s t p (lapse n)).after behind))
+        ∙ ap (after s t p) (sym (lapses_more p n behind) ∙ ap (lapses s t p) (sym first))
 
-    pub none_left : (n : Network) (held : List ℕ) → held ≡ [] → after s t (pair_at n k) (lapses s t (pair_at n k) held) ≡ pair_at n k
-    none_left n held h =
-        ap (λ (l : List ℕ). after s t (pair_at n k) (lapses s t (pair_at n k) l)) h
+    pub notes_more : (log more : List Entry) → more ≡ log ++ entry_at s t (pair_at before k) (lapse n) ∷ []
+        → more ++ lapses s t (pair_at end k) behind ≡ log ++ lapses s t (pair_at before k) held
+    notes_more log more e =
+        ap₂ (λ (l : List Entry) (x : Network). l ++ lapses s t (pair_at x k) behind) e left
+        ∙ append_assoc log (entry_at s t p (lapse n) ∷ []) (lapses s t (does s t p (lapse n)).after behind)
+        ∙ ap (λ (l : List Entry). log ++ l) (sym (lapses_more p n behind) ∙ ap (lapses s t p) (sym first))
+
+  module _ (k : List ℕ) (n : Network) (held : List ℕ) (none : held ≡ []) where
+    pub none_left : after s t (pair_at n k) (lapses s t (pair_at n k) held) ≡ pair_at n k
+    none_left =
+        ap (λ (l : List ℕ). after s t (pair_at n k) (lapses s t (pair_at n k) l)) none
         ∙ ap (after s t (pair_at n k)) (lapses_none (pair_at n k)) ∙ Sessions.after_none s t (pair_at n k)
 
-    pub none_noted : (n : Network) (held : List ℕ) (log : List Entry) → held ≡ [] → log ++ lapses s t (pair_at n k) held ≡ log
-    none_noted n held log h =
-        ap (λ (l : List ℕ). log ++ lapses s t (pair_at n k) l) h ∙ ap (λ (l : List Entry). log ++ l) (lapses_none (pair_at n k)) ∙ append_none log
+    pub none_noted : (log : List Entry) → log ++ lapses s t (pair_at n k) held ≡ log
+    none_noted log =
+        ap (λ (l : List ℕ). log ++ lapses s t (pair_at n k) l) none ∙ ap (λ (l : List Entry). log ++ l) (lapses_none (pair_at n k)) ∙ append-nil log
 
 -- ── the whole ──
 
-module _ (s t s₁ : Setup) (same : s₁ ≡ s) (n₀ n₁ n₂ : Network) (k₀ k₁ held₀ held : List ℕ) (log₀ log₁ : List Entry) (new : log₀ ≡ []) where
-  pub all_leads : ((start : Pair) → Leads s t start log₀ (pair_at n₀ k₀) → Leads s t start log₁ (pair_at n₁ k₁))
-      → ((t' : Setup) (k : List ℕ) → pair_at n₂ k ≡ after s₁ t' (pair_at n₁ k) (lapses s₁ t' (pair_at n₁ k) held))
-      → Leads s t (pair_at n₀ k₀) (log₁ ++ lapses s t (pair_at n₁ k₁) held) (pair_at n₂ k₁)
-  all_leads h e =
-      let q = pair_at n₁ k₁ in
-      let ends : pair_at n₂ k₁ ≡ after s t q (lapses s t q held) =
-      subst (λ (x : Setup). pair_at n₂ k₁ ≡ after x t q (lapses x t q held)) same (e t k₁) in
-      leads_append s t (pair_at n₀ k₀) q (pair_at n₂ k₁) log₁ (lapses s t q held)
-      (h (pair_at n₀ k₀) (subst (λ (l : List Entry). Leads s t (pair_at n₀ k₀) l (pair_at n₀ k₀)) (sym new) (leads_none s t (pair_at n₀ k₀))))
-      (lapses_lead s t q (pair_at n₂ k₁) held ends)
+-- from a run with no entry and no ticket, over its turns, to the lapses of the tickets left over
+module _ {K L : Type 0} (f : Forth K) (g : Forth L) (r r' r'' : Run K L) (ends : SameEnds f g r r') (lapsed : LapsesTickets f r' r'') where
+  abbrev s : Setup
+  s = network_setup f r.network.now
 
-  pub all_noted : (log₂ : List Entry) → ((t' : Setup) (k : List ℕ) → log₂ ≡ log₁ ++ lapses s₁ t' (pair_at n₁ k) held)
-      → log₁ ++ lapses s t (pair_at n₁ k₁) held ≡ log₂
-  all_noted log₂ e = subst (λ (x : Setup). log₁ ++ lapses x t (pair_at n₁ k₁) held ≡ log₂) same (sym (e t k₁))
+  abbrev t : Setup
+  t = card_setup g r.card.now
 
-  pub all_driven : {T : Type 0} (chooses : Choices T) (turns : ℕ) (who last : T) (final : List Entry) → held₀ ≡ []
-      → Driven chooses s t turns who (pair_at n₀ k₀) held₀ log₀ last final → Driven chooses s t turns who (pair_at n₀ k₀) [] [] last final
-  all_driven chooses turns who last final none d =
-      subst (λ (l : List Entry). Driven chooses s t turns who (pair_at n₀ k₀) [] l last final) new
-      (subst (λ (l : List ℕ). Driven chooses s t turns who (pair_at n₀ k₀) l log₀ last final) none d)
+  pub all_leads : log_in r ≡ [] → LeadsOn f g r r' → LapsesEnd f r' r''
+      → Leads s t (pair_in r) (log_in r' ++ lapses s t (pair_in r') (held_in r')) (pair_in r'')
+  all_leads new h e =
+      let same : pair_in r'' ≡ pair_at (network_in r'') (card_number r'.card.now) =
+      ap (λ (m : MutBor (CardEnd L)). pair_at (network_in r'') (card_number m.now)) lapsed.card in
+      let left : pair_in r'' ≡ after s t (pair_in r') (lapses s t (pair_in r') (held_in r')) =
+      subst (λ (x : Setup). pair_in r'' ≡ after x t (pair_in r') (lapses x t (pair_in r') (held_in r'))) ends.network_setup (same ∙ e t (card_number r'.card.now)) in
+      leads_append s t (pair_in r) (pair_in r') (pair_in r'') (log_in r') (lapses s t (pair_in r') (held_in r'))
+      (h (pair_in r) (rw new (leads_none s t (pair_in r))))
+      (lapses_lead s t (pair_in r') (pair_in r'') (held_in r') left)
+
+  pub all_noted : LapsesNoted f r' r'' → log_in r' ++ lapses s t (pair_in r') (held_in r') ≡ log_in r''
+  all_noted e =
+      subst (λ (x : Setup). log_in r' ++ lapses x t (pair_in r') (held_in r') ≡ log_in r'') ends.network_setup (sym (e t (card_number r'.card.now)))

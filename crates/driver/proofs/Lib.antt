@@ -1,5 +1,4 @@
 pub mod Holding
 pub mod Cutting
-pub mod Turning
 pub mod Driving
-pub mod Opening
+pub mod Turning

@@ -1,19 +1,12 @@
 -- What the inner functions answer.
-use Rattle.std.specs.Prelude.{◌≡◌, ℕ, ◌+◌, Bool, true, false, List, [], ◌∷◌, ◌++◌, take, drop, Some, None, Option, slice_index_or}
+use Rattle.std.specs.Prelude.{◌≡◌, ℕ, true, false, List, [], ◌∷◌, ◌++◌, Some, None, Option}
 use Rattle.aka.specs.declared.ticket.Ticket.{Ticket}
 use Rattle.aka.specs.Setup.{Setup}
 use Rattle.aka.specs.States.{Network, Yield, Done}
-use Rattle.aka.specs.Calls.{does_lapse}
 use Rattle.session.specs.Log.{Pair, Call, lapse, Entry, does, Handed}
 use Rattle.driver.specs.declared.types.Answer.{Answer}
 use Rattle.driver.specs.Seen.{Made, pair_at}
 use Rattle.driver.specs.Driven.{Turn, among, without, keeping, entry_at, noting, passing, turn, Leads}
-
--- the first ticket of a serial stands at i
-pub record StandsAt (serial : ℕ) (held : List ℕ) (i : ℕ) : Type 0 where
-  pub held_so : among serial held ≡ true
-  pub serial_is : slice_index_or held i 0 ≡ serial
-  pub rest : without serial held ≡ take i held ++ drop (i + 1) held
 
 -- a ticket is taken out of those held, or it was not among them
 abbrev pub Takes : ℕ → List ℕ → Option Ticket → List ℕ → Type 0
@@ -56,7 +49,6 @@ pub record Turned (s t : Setup) (p : Pair) (held : List ℕ) (u : Turn) (q : Pai
   pub log_is : more ≡ log ++ u.entries
   pub leads : Leads s t p u.entries q
 
--- a ticket left over lapses at a network end, and there was memory to note it or not
-pub record LapsesOne (serial : ℕ) (before end : Network) (noted : Bool) (log more : List Entry) : Type 0 where
-  pub left : end ≡ (does_lapse before serial).after
-  pub notes : noted ≡ true → (s t : Setup) (k : List ℕ) → more ≡ log ++ entry_at s t (pair_at before k) (lapse serial) ∷ []
+-- the lapse of a ticket at a network end is noted, whatever the card
+abbrev pub LapseNoted : ℕ → Network → List Entry → List Entry → Type 0
+LapseNoted serial before log more = (s t : Setup) (k : List ℕ) → more ≡ log ++ entry_at s t (pair_at before k) (lapse serial) ∷ []

@@ -1,10 +1,10 @@
 -- Steps, answers and the log of the code, in the words of the log.
-use Rattle.std.specs.Prelude.{◌≡◌, ℕ, List, map, Some, None, vec_items, Option}
-use Rattle.block.specs.Refusals.{number}
+use Rattle.std.specs.Prelude.{◌≡◌, ℕ, List, map, Some, None, vec_items, Vec, Option}
+use Rattle.std.specs.declared.alloc.Global.{Global}
 use Rattle.aka.specs.declared.ticket.Ticket.{Ticket}
 use Rattle.aka.specs.declared.network.NetworkEnd.{NetworkEnd}
 use Rattle.aka.specs.declared.card.CardEnd.{CardEnd}
-use Rattle.aka.specs.States.{Network, Yield, issued, confirmed, raised, kept, lapsed, accepted, traced, refused, Done}
+use Rattle.aka.specs.States.{Network, Done}
 use Rattle.aka.specs.Views.{network_of, card_number}
 use Rattle.session.specs.Log.{Pair, Call, challenge, confirm, resync, lapse, receive, trace, Entry}
 use Rattle.session.specs.Log as log
@@ -12,16 +12,15 @@ use Rattle.driver.specs.declared.types.End.{End}
 use Rattle.driver.specs.declared.types.End.TheVariants as end
 use Rattle.driver.specs.declared.types.Step.{Step}
 use Rattle.driver.specs.declared.types.Step.TheVariants as step
-use Rattle.driver.specs.declared.types.Outcome.{Outcome}
-use Rattle.driver.specs.declared.types.Outcome.TheVariants as outcome
 use Rattle.driver.specs.declared.types.Answer.{Answer}
 use Rattle.driver.specs.declared.types.Noted.{Noted}
+use Rattle.driver.specs.Yields.{yield_of}
 
 abbrev pub end_of : End → log.End
 end_of end.Network = log.network
 end_of end.Card = log.card
 
-abbrev pub call_of : Step → Call
+abbrev pub call_of : Step (Vec ℕ Global) → Call
 call_of (step.Challenge rand amf room scratch) = challenge (vec_items rand) (vec_items amf) room scratch
 call_of (step.Confirm serial res) = confirm serial (vec_items res)
 call_of (step.Resync serial auts scratch) = resync serial (vec_items auts) scratch
@@ -30,22 +29,18 @@ call_of (step.Receive rand autn room auts_room scratch) = receive (vec_items ran
 call_of (step.Trace e index rand size carried room scratch) = trace (end_of e) index (vec_items rand) size (vec_items carried) room scratch
 
 -- what a technician answers: the next call, or the end
-abbrev pub choice_of : Option Step → Option Call
+abbrev pub choice_of : Option (Step (Vec ℕ Global)) → Option Call
 choice_of None = None
 choice_of (Some s) = Some (call_of s)
 
-abbrev pub yield_of : Outcome → Yield
-yield_of (outcome.Issued serial) = issued serial
-yield_of (outcome.Confirmed b) = confirmed b
-yield_of outcome.Raised = raised
-yield_of outcome.Kept = kept
-yield_of outcome.Lapsed = lapsed
-yield_of outcome.Accepted = accepted
-yield_of outcome.Traced = traced
-yield_of (outcome.Refused e) = refused (number e)
-
 abbrev pub entry_of : Noted → Entry
-entry_of n = record { call = call_of n.call; yielded = yield_of n.yielded; wrote = vec_items n.wrote; wrote_auts = vec_items n.wrote_auts }
+entry_of n =
+    record {
+      call = call_of n.call;
+      yielded = yield_of n.answer.yielded;
+      wrote = vec_items n.answer.wrote;
+      wrote_auts = vec_items n.answer.wrote_auts;
+    }
 
 abbrev pub logged : List Noted → List Entry
 logged ns = map entry_of ns

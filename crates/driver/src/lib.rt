@@ -2,14 +2,16 @@
 #![tactic(auto)]
 
 mod calls;
+mod left_over;
 mod opened;
 mod pair;
+mod run;
 mod technician;
+mod text;
 mod tickets;
-mod turns;
 mod types;
 
 pub use opened::{run_one_key, run_pair};
 pub use pair::drive;
 pub use technician::Technician;
-pub use types::{End, Noted, Outcome, Step, Stopped};
+pub use types::{Answer, End, Noted, Outcome, Step, Stopped};

@@ -25,24 +25,9 @@ pub fn run_pair<T: Technician, K: Kernel + Drop, L: Kernel + Drop>(
 ) -> Result<Vec<Noted>, Stopped>
     ensures { RunsPair T.Technician.chooses (K.Kernel.forth network_kernel) (L.Kernel.forth card_kernel) opc.now constants.now sizes network_number.now card_number.now turns technician.old result technician.new }
 {
-    let mut network = match NetworkEnd::open(
-        network_kernel,
-        opc,
-        constants,
-        sizes,
-        network_number,
-    ) {
-        Ok(end) => end,
-        Err(e) => return Err(Stopped::Refused(e)),
-    };
-    let mut card = match CardEnd::open(card_kernel, opc, constants, sizes, card_number) {
-        Ok(end) => end,
-        Err(e) => return Err(Stopped::Refused(e)),
-    };
-    match drive(heap, technician, turns, &mut network, &mut card) {
-        Ok(log) => Ok(log),
-        Err(_) => Err(Stopped::Memory),
-    }
+    let mut network = NetworkEnd::open(network_kernel, opc, constants, sizes, network_number)?;
+    let mut card = CardEnd::open(card_kernel, opc, constants, sizes, card_number)?;
+    Ok(drive(heap, technician, turns, &mut network, &mut card)?)
 }
 
 // The same with two Rijndael kernels of one key.
@@ -59,14 +44,8 @@ pub fn run_one_key<T: Technician>(
 ) -> Result<Vec<Noted>, Stopped>
     ensures { RunsOneKey T.Technician.chooses (encrypt (round_keys key.now)) key.now opc.now constants.now sizes network_number.now card_number.now turns technician.old result technician.new }
 {
-    let network_kernel = match Rijndael::new(key) {
-        Ok(kernel) => kernel,
-        Err(e) => return Err(Stopped::Refused(e)),
-    };
-    let card_kernel = match Rijndael::new(key) {
-        Ok(kernel) => kernel,
-        Err(e) => return Err(Stopped::Refused(e)),
-    };
+    let network_kernel = Rijndael::new(key)?;
+    let card_kernel = Rijndael::new(key)?;
     run_pair(
         heap,
         technician,

@@ -1,126 +1,79 @@
-use super::opening::{SMALLEST, kernel};
-use super::report::{Report, part};
-use aka::{NetworkEnd, Ticket};
-use anyhow::anyhow;
+use super::ends::{challenge, opened};
+use super::report::{Case, Report, part};
+use aka::NetworkEnd;
 use block::Refusal;
-use rijndael::Rijndael;
 
-// A challenge by the lengths of what it is handed, at an end whose number is all ff or not.
-struct ChallengeCase {
-    case: &'static str,
-    spent: bool,
+// A challenge by its network end's number, and by the lengths of what it is handed.
+struct ChallengeCall {
+    number: [u8; 6],
     rand: usize,
     amf: usize,
     out: usize,
     scratch: usize,
-    wanted: u8,
 }
+
+const ALL_FF: [u8; 6] = [255; 6];
+
+const ONE_BELOW: [u8; 6] = [255, 255, 255, 255, 255, 254];
+
+const GOOD: ChallengeCall = ChallengeCall {
+    number: ONE_BELOW,
+    rand: 16,
+    amf: 2,
+    out: 68,
+    scratch: 96,
+};
 
 #[rattlefmt::skip]
-const CHALLENGES: [ChallengeCase; 14] = [
-    ChallengeCase { case: "all sizes smallest, 68 bytes", spent: false, rand: 16, amf: 2, out: 68, scratch: 96, wanted: 0 },
-    ChallengeCase { case: "everything empty", spent: true, rand: 0, amf: 0, out: 0, scratch: 0, wanted: 9 },
-    ChallengeCase { case: "RAND 15", spent: false, rand: 15, amf: 2, out: 68, scratch: 96, wanted: 9 },
-    ChallengeCase { case: "RAND 17 and AMF 1", spent: false, rand: 17, amf: 1, out: 68, scratch: 96, wanted: 9 },
-    ChallengeCase { case: "RAND 15 and output 67", spent: false, rand: 15, amf: 2, out: 67, scratch: 96, wanted: 9 },
-    ChallengeCase { case: "RAND 15 and number all ff", spent: true, rand: 15, amf: 2, out: 68, scratch: 96, wanted: 9 },
-    ChallengeCase { case: "AMF 1", spent: false, rand: 16, amf: 1, out: 68, scratch: 96, wanted: 10 },
-    ChallengeCase { case: "AMF 3 and scratch 95", spent: false, rand: 16, amf: 3, out: 68, scratch: 95, wanted: 10 },
-    ChallengeCase { case: "AMF 0 and number all ff", spent: true, rand: 16, amf: 0, out: 68, scratch: 96, wanted: 10 },
-    ChallengeCase { case: "output 67", spent: false, rand: 16, amf: 2, out: 67, scratch: 96, wanted: 12 },
-    ChallengeCase { case: "scratch 95", spent: false, rand: 16, amf: 2, out: 68, scratch: 95, wanted: 12 },
-    ChallengeCase { case: "output 67 and number all ff", spent: true, rand: 16, amf: 2, out: 67, scratch: 96, wanted: 12 },
-    ChallengeCase { case: "number all ff", spent: true, rand: 16, amf: 2, out: 68, scratch: 96, wanted: 13 },
-    ChallengeCase { case: "number one below all ff", spent: false, rand: 16, amf: 2, out: 96, scratch: 96, wanted: 0 },
+const CHALLENGES: [Case<ChallengeCall>; 14] = [
+    Case { case: "all sizes smallest, 68 bytes", asked: GOOD, wanted: None },
+    Case { case: "everything empty", asked: ChallengeCall { number: ALL_FF, rand: 0, amf: 0, out: 0, scratch: 0 }, wanted: Some(Refusal::Rand) },
+    Case { case: "RAND 15", asked: ChallengeCall { rand: 15, ..GOOD }, wanted: Some(Refusal::Rand) },
+    Case { case: "RAND 17 and AMF 1", asked: ChallengeCall { rand: 17, amf: 1, ..GOOD }, wanted: Some(Refusal::Rand) },
+    Case { case: "RAND 15 and output 67", asked: ChallengeCall { rand: 15, out: 67, ..GOOD }, wanted: Some(Refusal::Rand) },
+    Case { case: "RAND 15 and number all ff", asked: ChallengeCall { number: ALL_FF, rand: 15, ..GOOD }, wanted: Some(Refusal::Rand) },
+    Case { case: "AMF 1", asked: ChallengeCall { amf: 1, ..GOOD }, wanted: Some(Refusal::Amf) },
+    Case { case: "AMF 3 and scratch 95", asked: ChallengeCall { amf: 3, scratch: 95, ..GOOD }, wanted: Some(Refusal::Amf) },
+    Case { case: "AMF 0 and number all ff", asked: ChallengeCall { number: ALL_FF, amf: 0, ..GOOD }, wanted: Some(Refusal::Amf) },
+    Case { case: "output 67", asked: ChallengeCall { out: 67, ..GOOD }, wanted: Some(Refusal::Buffer) },
+    Case { case: "scratch 95", asked: ChallengeCall { scratch: 95, ..GOOD }, wanted: Some(Refusal::Buffer) },
+    Case { case: "output 67 and number all ff", asked: ChallengeCall { number: ALL_FF, out: 67, ..GOOD }, wanted: Some(Refusal::Buffer) },
+    Case { case: "number all ff", asked: ChallengeCall { number: ALL_FF, ..GOOD }, wanted: Some(Refusal::Spent) },
+    Case { case: "number one below all ff", asked: ChallengeCall { out: 96, ..GOOD }, wanted: None },
 ];
 
-// A network end whose number is all ff, or one below.
-pub fn network(spent: bool) -> anyhow::Result<NetworkEnd<Rijndael>> {
-    let number = if spent {
-        [255; 6]
-    } else {
-        [255, 255, 255, 255, 255, 254]
-    };
-    match NetworkEnd::open(kernel()?, part(32), part(128), SMALLEST, &number) {
-        Ok(end) => Ok(end),
-        Err(_) => Err(anyhow!("the network end was refused")),
-    }
-}
-
-// The number that a challenge got; its ticket is lapsed.
-fn settled(end: &mut NetworkEnd<Rijndael>, outcome: Result<Ticket, Refusal>) -> u8 {
-    match outcome {
-        Ok(ticket) => {
-            let _ = end.lapse(ticket);
-            0
-        }
-        Err(e) => e.number(),
-    }
-}
-
-// The grounds of a challenge.
-pub fn check(rt: &HostRuntime, report: &mut Report) -> anyhow::Result<()> {
-    for c in &CHALLENGES {
-        let mut end = network(c.spent)?;
-        let mut out = [0; 96];
-        let mut scratch = [9; 96];
-        let n = c.out.min(96);
-        let m = c.scratch.min(96);
-        let outcome = end.challenge(
-            part(c.rand),
-            part(c.amf),
-            &mut out[0..n],
-            &mut scratch[0..m],
-        );
-        let got = settled(&mut end, outcome);
-        report.expect(rt, "challenge", c.case, c.wanted, got)?;
-    }
-    stale(rt, report)
-}
-
-// The number that a confirm with an empty RES gets.
-fn confirmed(end: &mut NetworkEnd<Rijndael>, outcome: Result<Ticket, Refusal>) -> u8 {
-    match outcome {
-        Ok(ticket) => match end.confirm(ticket, &[]) {
-            Ok(_) => 0,
-            Err(e) => e.number(),
-        },
-        Err(e) => e.number(),
-    }
+// Gives a challenge, and lapses its ticket.
+fn attempt(c: &ChallengeCall) -> anyhow::Result<Option<Refusal>> {
+    let mut end = opened(NetworkEnd::open, c.number)?;
+    let mut out = [0; 96];
+    let mut scratch = [9; 96];
+    let outcome = end.challenge(
+        part(c.rand),
+        part(c.amf),
+        &mut out[0..c.out.min(96)],
+        &mut scratch[0..c.scratch.min(96)],
+    );
+    Ok(outcome.and_then(|ticket| end.lapse(ticket)).err())
 }
 
 // A ticket whose challenge was replaced is stale, at confirm and at lapse.
-fn stale(rt: &HostRuntime, report: &mut Report) -> anyhow::Result<()> {
-    let Ok(mut end) = NetworkEnd::open(kernel()?, part(32), part(128), SMALLEST, &[0; 6]) else {
-        return Err(anyhow!("the network end was refused"));
-    };
-    let mut out = [0; 68];
-    let mut scratch = [0; 96];
-    let first = end.challenge(part(16), part(2), &mut out, &mut scratch);
-    let second = end.challenge(part(16), part(2), &mut out, &mut scratch);
-    let third = end.challenge(part(16), part(2), &mut out, &mut scratch);
-    let one = confirmed(&mut end, first);
-    let two = match second {
-        Ok(ticket) => match end.lapse(ticket) {
-            Ok(()) => 0,
-            Err(e) => e.number(),
-        },
-        Err(e) => e.number(),
-    };
-    let three = confirmed(&mut end, third);
-    report.expect(
-        rt,
-        "confirm",
-        "a ticket whose challenge was replaced",
-        14,
-        one,
-    )?;
-    report.expect(
-        rt,
-        "lapse",
-        "a ticket whose challenge was replaced",
-        14,
-        two,
-    )?;
-    report.expect(rt, "confirm", "the open ticket, an empty RES", 0, three)
+fn stale(report: &mut Report<'_>) -> anyhow::Result<()> {
+    let mut end = opened(NetworkEnd::open, [0; 6])?;
+    let mut vector = [0; 68];
+    let first = challenge(&mut end, &mut vector);
+    let second = challenge(&mut end, &mut vector);
+    let third = challenge(&mut end, &mut vector);
+    let confirmed = first.and_then(|ticket| end.confirm(ticket, &[])).err();
+    let lapsed = second.and_then(|ticket| end.lapse(ticket)).err();
+    let open = third.and_then(|ticket| end.confirm(ticket, &[])).err();
+    let replaced = "a ticket whose challenge was replaced";
+    report.expect("confirm", replaced, Some(Refusal::Stale), confirmed)?;
+    report.expect("lapse", replaced, Some(Refusal::Stale), lapsed)?;
+    report.expect("confirm", "the open ticket, an empty RES", None, open)
+}
+
+// The grounds of a challenge.
+pub fn check(report: &mut Report<'_>) -> anyhow::Result<()> {
+    report.expect_each("challenge", &CHALLENGES, attempt)?;
+    stale(report)
 }

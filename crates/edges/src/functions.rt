@@ -1,172 +1,161 @@
-use super::report::{Report, made, number_of, part};
-use anyhow::anyhow;
+use super::ends::{KEY, kernel};
+use super::report::{Case, Report, part};
 use block::Refusal;
 use kernel::Whitened;
 use milenage::{cut, derive_opc, standard_constants, trace};
 use rijndael::Rijndael;
 
-const KEY: [u8; 32] = [1; 32];
-
-// A trace by the lengths of what it is handed, and the number that it should get.
-struct TraceCase {
-    case: &'static str,
+// A trace by its index and its size, and by the lengths of what it is handed.
+struct TraceCall {
     index: usize,
     size: usize,
     rand: usize,
     carried: usize,
     out: usize,
     scratch: usize,
-    wanted: u8,
 }
 
+const GOOD_TRACE: TraceCall = TraceCall {
+    index: 1,
+    size: 8,
+    rand: 16,
+    carried: 8,
+    out: 192,
+    scratch: 96,
+};
+
 #[rattlefmt::skip]
-const TRACES: [TraceCase; 26] = [
-    TraceCase { case: "index 8", index: 8, size: 8, rand: 16, carried: 8, out: 192, scratch: 96, wanted: 5 },
-    TraceCase { case: "index 8, RAND 15", index: 8, size: 8, rand: 15, carried: 8, out: 192, scratch: 96, wanted: 5 },
-    TraceCase { case: "index 8, output 0", index: 8, size: 8, rand: 16, carried: 8, out: 0, scratch: 96, wanted: 5 },
-    TraceCase { case: "MAC 7", index: 1, size: 7, rand: 16, carried: 8, out: 192, scratch: 96, wanted: 6 },
-    TraceCase { case: "MAC 33", index: 0, size: 33, rand: 16, carried: 8, out: 192, scratch: 96, wanted: 6 },
-    TraceCase { case: "RES 3", index: 2, size: 3, rand: 16, carried: 0, out: 192, scratch: 96, wanted: 6 },
-    TraceCase { case: "RES 4", index: 2, size: 4, rand: 16, carried: 0, out: 192, scratch: 96, wanted: 0 },
-    TraceCase { case: "CK 15", index: 3, size: 15, rand: 16, carried: 0, out: 192, scratch: 96, wanted: 6 },
-    TraceCase { case: "AK 5", index: 5, size: 5, rand: 16, carried: 0, out: 192, scratch: 96, wanted: 6 },
-    TraceCase { case: "AK 13", index: 6, size: 13, rand: 16, carried: 0, out: 192, scratch: 96, wanted: 6 },
-    TraceCase { case: "AK 5 and RAND 15", index: 7, size: 5, rand: 15, carried: 8, out: 192, scratch: 96, wanted: 6 },
-    TraceCase { case: "AK 5 and carried 7", index: 7, size: 5, rand: 16, carried: 7, out: 192, scratch: 96, wanted: 6 },
-    TraceCase { case: "AK 5 and output 191", index: 5, size: 5, rand: 16, carried: 0, out: 191, scratch: 96, wanted: 6 },
-    TraceCase { case: "RAND 15", index: 1, size: 8, rand: 15, carried: 8, out: 192, scratch: 96, wanted: 9 },
-    TraceCase { case: "RAND 16", index: 1, size: 8, rand: 16, carried: 8, out: 192, scratch: 96, wanted: 0 },
-    TraceCase { case: "RAND 32", index: 1, size: 8, rand: 32, carried: 8, out: 192, scratch: 96, wanted: 0 },
-    TraceCase { case: "RAND 33", index: 1, size: 8, rand: 33, carried: 8, out: 192, scratch: 96, wanted: 9 },
-    TraceCase { case: "RAND 15 and carried 7", index: 1, size: 8, rand: 15, carried: 7, out: 192, scratch: 96, wanted: 9 },
-    TraceCase { case: "RAND 15 and scratch 0", index: 1, size: 8, rand: 15, carried: 8, out: 192, scratch: 0, wanted: 9 },
-    TraceCase { case: "carried 7 to f1", index: 1, size: 8, rand: 16, carried: 7, out: 192, scratch: 96, wanted: 11 },
-    TraceCase { case: "carried 15 to f1*", index: 0, size: 8, rand: 16, carried: 15, out: 192, scratch: 96, wanted: 11 },
-    TraceCase { case: "carried 1 to f5", index: 5, size: 6, rand: 16, carried: 1, out: 192, scratch: 96, wanted: 11 },
-    TraceCase { case: "carried 33 to f5**", index: 7, size: 6, rand: 16, carried: 33, out: 192, scratch: 96, wanted: 11 },
-    TraceCase { case: "carried 7 and output 191", index: 7, size: 6, rand: 16, carried: 7, out: 191, scratch: 96, wanted: 11 },
-    TraceCase { case: "output 191", index: 7, size: 6, rand: 16, carried: 32, out: 191, scratch: 96, wanted: 12 },
-    TraceCase { case: "scratch 95", index: 7, size: 12, rand: 16, carried: 8, out: 192, scratch: 95, wanted: 12 },
+const TRACES: [Case<TraceCall>; 26] = [
+    Case { case: "index 8", asked: TraceCall { index: 8, ..GOOD_TRACE }, wanted: Some(Refusal::Index) },
+    Case { case: "index 8, RAND 15", asked: TraceCall { index: 8, rand: 15, ..GOOD_TRACE }, wanted: Some(Refusal::Index) },
+    Case { case: "index 8, output 0", asked: TraceCall { index: 8, out: 0, ..GOOD_TRACE }, wanted: Some(Refusal::Index) },
+    Case { case: "MAC 7", asked: TraceCall { size: 7, ..GOOD_TRACE }, wanted: Some(Refusal::Size) },
+    Case { case: "MAC 33", asked: TraceCall { index: 0, size: 33, ..GOOD_TRACE }, wanted: Some(Refusal::Size) },
+    Case { case: "RES 3", asked: TraceCall { index: 2, size: 3, carried: 0, ..GOOD_TRACE }, wanted: Some(Refusal::Size) },
+    Case { case: "RES 4", asked: TraceCall { index: 2, size: 4, carried: 0, ..GOOD_TRACE }, wanted: None },
+    Case { case: "CK 15", asked: TraceCall { index: 3, size: 15, carried: 0, ..GOOD_TRACE }, wanted: Some(Refusal::Size) },
+    Case { case: "AK 5", asked: TraceCall { index: 5, size: 5, carried: 0, ..GOOD_TRACE }, wanted: Some(Refusal::Size) },
+    Case { case: "AK 13", asked: TraceCall { index: 6, size: 13, carried: 0, ..GOOD_TRACE }, wanted: Some(Refusal::Size) },
+    Case { case: "AK 5 and RAND 15", asked: TraceCall { index: 7, size: 5, rand: 15, ..GOOD_TRACE }, wanted: Some(Refusal::Size) },
+    Case { case: "AK 5 and carried 7", asked: TraceCall { index: 7, size: 5, carried: 7, ..GOOD_TRACE }, wanted: Some(Refusal::Size) },
+    Case { case: "AK 5 and output 191", asked: TraceCall { index: 5, size: 5, carried: 0, out: 191, ..GOOD_TRACE }, wanted: Some(Refusal::Size) },
+    Case { case: "RAND 15", asked: TraceCall { rand: 15, ..GOOD_TRACE }, wanted: Some(Refusal::Rand) },
+    Case { case: "RAND 16", asked: GOOD_TRACE, wanted: None },
+    Case { case: "RAND 32", asked: TraceCall { rand: 32, ..GOOD_TRACE }, wanted: None },
+    Case { case: "RAND 33", asked: TraceCall { rand: 33, ..GOOD_TRACE }, wanted: Some(Refusal::Rand) },
+    Case { case: "RAND 15 and carried 7", asked: TraceCall { rand: 15, carried: 7, ..GOOD_TRACE }, wanted: Some(Refusal::Rand) },
+    Case { case: "RAND 15 and scratch 0", asked: TraceCall { rand: 15, scratch: 0, ..GOOD_TRACE }, wanted: Some(Refusal::Rand) },
+    Case { case: "carried 7 to f1", asked: TraceCall { carried: 7, ..GOOD_TRACE }, wanted: Some(Refusal::Carried) },
+    Case { case: "carried 15 to f1*", asked: TraceCall { index: 0, carried: 15, ..GOOD_TRACE }, wanted: Some(Refusal::Carried) },
+    Case { case: "carried 1 to f5", asked: TraceCall { index: 5, size: 6, carried: 1, ..GOOD_TRACE }, wanted: Some(Refusal::Carried) },
+    Case { case: "carried 33 to f5**", asked: TraceCall { index: 7, size: 6, carried: 33, ..GOOD_TRACE }, wanted: Some(Refusal::Carried) },
+    Case { case: "carried 7 and output 191", asked: TraceCall { index: 7, size: 6, carried: 7, out: 191, ..GOOD_TRACE }, wanted: Some(Refusal::Carried) },
+    Case { case: "output 191", asked: TraceCall { index: 7, size: 6, carried: 32, out: 191, ..GOOD_TRACE }, wanted: Some(Refusal::Buffer) },
+    Case { case: "scratch 95", asked: TraceCall { index: 7, size: 12, scratch: 95, ..GOOD_TRACE }, wanted: Some(Refusal::Buffer) },
 ];
 
 // A derivation of OPc by the lengths of what it is handed.
-struct DeriveCase {
-    case: &'static str,
+struct DeriveCall {
     op: usize,
     name: usize,
     scratch: usize,
-    wanted: u8,
 }
 
+const GOOD_DERIVATION: DeriveCall = DeriveCall {
+    op: 32,
+    name: 11,
+    scratch: 96,
+};
+
 #[rattlefmt::skip]
-const DERIVATIONS: [DeriveCase; 9] = [
-    DeriveCase { case: "OP 0", op: 0, name: 11, scratch: 96, wanted: 2 },
-    DeriveCase { case: "OP 33", op: 33, name: 11, scratch: 96, wanted: 2 },
-    DeriveCase { case: "OP 31 and name 32", op: 31, name: 32, scratch: 96, wanted: 2 },
-    DeriveCase { case: "OP 31 and scratch 0", op: 31, name: 11, scratch: 0, wanted: 2 },
-    DeriveCase { case: "name 0", op: 32, name: 0, scratch: 96, wanted: 0 },
-    DeriveCase { case: "name 31", op: 32, name: 31, scratch: 96, wanted: 0 },
-    DeriveCase { case: "name 32", op: 32, name: 32, scratch: 96, wanted: 4 },
-    DeriveCase { case: "name 32 and scratch 95", op: 32, name: 32, scratch: 95, wanted: 4 },
-    DeriveCase { case: "scratch 95", op: 32, name: 11, scratch: 95, wanted: 12 },
+const DERIVATIONS: [Case<DeriveCall>; 9] = [
+    Case { case: "OP 0", asked: DeriveCall { op: 0, ..GOOD_DERIVATION }, wanted: Some(Refusal::OperatorField) },
+    Case { case: "OP 33", asked: DeriveCall { op: 33, ..GOOD_DERIVATION }, wanted: Some(Refusal::OperatorField) },
+    Case { case: "OP 31 and name 32", asked: DeriveCall { op: 31, name: 32, ..GOOD_DERIVATION }, wanted: Some(Refusal::OperatorField) },
+    Case { case: "OP 31 and scratch 0", asked: DeriveCall { op: 31, scratch: 0, ..GOOD_DERIVATION }, wanted: Some(Refusal::OperatorField) },
+    Case { case: "name 0", asked: DeriveCall { name: 0, ..GOOD_DERIVATION }, wanted: None },
+    Case { case: "name 31", asked: DeriveCall { name: 31, ..GOOD_DERIVATION }, wanted: None },
+    Case { case: "name 32", asked: DeriveCall { name: 32, ..GOOD_DERIVATION }, wanted: Some(Refusal::Name) },
+    Case { case: "name 32 and scratch 95", asked: DeriveCall { name: 32, scratch: 95, ..GOOD_DERIVATION }, wanted: Some(Refusal::Name) },
+    Case { case: "scratch 95", asked: DeriveCall { scratch: 95, ..GOOD_DERIVATION }, wanted: Some(Refusal::Buffer) },
 ];
 
 // A cut by its index, its size and the block's length.
-struct CutCase {
-    case: &'static str,
+struct CutCall {
     index: usize,
     size: usize,
     block: usize,
-    wanted: u8,
 }
 
 #[rattlefmt::skip]
-const CUTS: [CutCase; 7] = [
-    CutCase { case: "index 8", index: 8, size: 8, block: 32, wanted: 5 },
-    CutCase { case: "index 8 and block 31", index: 8, size: 8, block: 31, wanted: 5 },
-    CutCase { case: "AK 13", index: 5, size: 13, block: 32, wanted: 6 },
-    CutCase { case: "AK 13 and block 0", index: 5, size: 13, block: 0, wanted: 6 },
-    CutCase { case: "block 31", index: 5, size: 12, block: 31, wanted: 15 },
-    CutCase { case: "block 33", index: 2, size: 32, block: 33, wanted: 15 },
-    CutCase { case: "RES 32", index: 2, size: 32, block: 32, wanted: 0 },
+const CUTS: [Case<CutCall>; 7] = [
+    Case { case: "index 8", asked: CutCall { index: 8, size: 8, block: 32 }, wanted: Some(Refusal::Index) },
+    Case { case: "index 8 and block 31", asked: CutCall { index: 8, size: 8, block: 31 }, wanted: Some(Refusal::Index) },
+    Case { case: "AK 13", asked: CutCall { index: 5, size: 13, block: 32 }, wanted: Some(Refusal::Size) },
+    Case { case: "AK 13 and block 0", asked: CutCall { index: 5, size: 13, block: 0 }, wanted: Some(Refusal::Size) },
+    Case { case: "block 31", asked: CutCall { index: 5, size: 12, block: 31 }, wanted: Some(Refusal::Message) },
+    Case { case: "block 33", asked: CutCall { index: 2, size: 32, block: 33 }, wanted: Some(Refusal::Message) },
+    Case { case: "RES 32", asked: CutCall { index: 2, size: 32, block: 32 }, wanted: None },
 ];
 
-fn kernels(rt: &HostRuntime, report: &mut Report) -> anyhow::Result<()> {
+fn kernels(report: &mut Report<'_>) -> anyhow::Result<()> {
     for n in [0, 31, 33] {
-        report.expect(
-            rt,
-            "rijndael",
-            "a key not of 32",
-            1,
-            made(Rijndael::new(part(n))),
-        )?;
+        let got = Rijndael::new(part(n)).err();
+        report.expect("rijndael", "a key not of 32", Some(Refusal::Key), got)?;
     }
-    report.expect(rt, "rijndael", "a key of 32", 0, made(Rijndael::new(&KEY)))?;
-    for (a, b, wanted) in [(31, 32, 1), (32, 33, 1), (0, 0, 1), (32, 32, 0)] {
-        let Ok(below) = Rijndael::new(&KEY) else {
-            return Err(anyhow!("the key was refused"));
-        };
-        let got = made(Whitened::new(below, part(a), part(b)));
-        report.expect(rt, "whitened", "masks", wanted, got)?;
+    report.expect("rijndael", "a key of 32", None, Rijndael::new(&KEY).err())?;
+    for (a, b) in [(31, 32), (32, 33), (0, 0)] {
+        let got = Whitened::new(kernel()?, part(a), part(b)).err();
+        report.expect("whitened", "masks", Some(Refusal::Key), got)?;
     }
-    Ok(())
+    let got = Whitened::new(kernel()?, part(32), part(32)).err();
+    report.expect("whitened", "masks", None, got)
 }
 
-fn traces(rt: &HostRuntime, report: &mut Report, kernel: &Rijndael) -> anyhow::Result<()> {
-    let constants = standard_constants();
-    for c in &TRACES {
-        let mut out = [0; 192];
-        let mut scratch = [9; 96];
-        let n = c.out.min(192);
-        let m = c.scratch.min(96);
-        let outcome = trace(
-            kernel,
-            &KEY,
-            &constants,
-            c.index,
-            part(c.rand),
-            c.size,
-            part(c.carried),
-            &mut out[0..n],
-            &mut scratch[0..m],
-        );
-        report.expect(rt, "trace", c.case, c.wanted, number_of(outcome))?;
-    }
-    Ok(())
-}
-
-fn derivations(rt: &HostRuntime, report: &mut Report, kernel: &Rijndael) -> anyhow::Result<()> {
-    for c in &DERIVATIONS {
-        let mut scratch = [9; 96];
-        let m = c.scratch.min(96);
-        let got = made(derive_opc(kernel, part(c.op), part(c.name), &mut scratch[0..m]));
-        report.expect(rt, "derive OPc", c.case, c.wanted, got)?;
-    }
+fn traced(kernel: &Rijndael, c: &TraceCall) -> Option<Refusal> {
+    let mut out = [0; 192];
     let mut scratch = [9; 96];
-    let got = made(derive_opc(kernel, &KEY, b"A\x00B", &mut scratch));
-    report.expect(rt, "derive OPc", "a name that holds 00", 4, got)
+    trace(
+        kernel,
+        &KEY,
+        &standard_constants(),
+        c.index,
+        part(c.rand),
+        c.size,
+        part(c.carried),
+        &mut out[0..c.out.min(192)],
+        &mut scratch[0..c.scratch.min(96)],
+    )
+    .err()
 }
 
-fn cuts(rt: &HostRuntime, report: &mut Report) -> anyhow::Result<()> {
-    for c in &CUTS {
-        report.expect(
-            rt,
-            "cut",
-            c.case,
-            c.wanted,
-            made(cut(c.index, c.size, part(c.block))),
-        )?;
-    }
-    Ok(())
+fn derived(kernel: &Rijndael, c: &DeriveCall) -> Option<Refusal> {
+    let mut scratch = [9; 96];
+    derive_opc(
+        kernel,
+        part(c.op),
+        part(c.name),
+        &mut scratch[0..c.scratch.min(96)],
+    )
+    .err()
 }
 
 // The kernels, the derivation of OPc, trace and cut.
-pub fn check(rt: &HostRuntime, report: &mut Report) -> anyhow::Result<()> {
-    kernels(rt, report)?;
-    let Ok(kernel) = Rijndael::new(&KEY) else {
-        return Err(anyhow!("the key was refused"));
-    };
-    derivations(rt, report, &kernel)?;
-    traces(rt, report, &kernel)?;
-    cuts(rt, report)
+pub fn check(report: &mut Report<'_>) -> anyhow::Result<()> {
+    kernels(report)?;
+    let kernel = kernel()?;
+    report.expect_each("derive OPc", &DERIVATIONS, |c| Ok(derived(&kernel, c)))?;
+    let zero = derive_opc(&kernel, &KEY, b"A\x00B", &mut [9; 96]).err();
+    report.expect(
+        "derive OPc",
+        "a name that holds 00",
+        Some(Refusal::Name),
+        zero,
+    )?;
+    report.expect_each("trace", &TRACES, |c| Ok(traced(&kernel, c)))?;
+    report.expect_each(
+        "cut",
+        &CUTS,
+        |c| Ok(cut(c.index, c.size, part(c.block)).err()),
+    )
 }

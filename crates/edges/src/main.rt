@@ -2,6 +2,7 @@
 #![tactic(auto)]
 
 mod challenges;
+mod ends;
 mod functions;
 mod opening;
 mod receives;
@@ -10,21 +11,17 @@ mod resyncs;
 
 use report::Report;
 
-fn cases(rt: &HostRuntime, report: &mut Report) -> anyhow::Result<()> {
-    functions::check(rt, report)?;
-    opening::check(rt, report)?;
-    challenges::check(rt, report)?;
-    receives::check(rt, report)?;
-    resyncs::check(rt, report)
-}
-
-fn run(rt: &HostRuntime) -> anyhow::Result<()> {
-    let mut report = Report::new();
-    let done = cases(rt, &mut report);
-    report.close(rt)?;
-    done
+fn check(report: &mut Report<'_>) -> anyhow::Result<()> {
+    functions::check(report)?;
+    opening::check(report)?;
+    challenges::check(report)?;
+    receives::check(report)?;
+    resyncs::check(report)
 }
 
 fn main(rt: HostRuntime) -> anyhow::Result<()> {
-    run(&rt)
+    let mut report = Report::new(&rt);
+    let done = check(&mut report);
+    report.close()?;
+    done
 }

@@ -1,93 +1,62 @@
-use super::opening::{SMALLEST, kernel};
-use super::report::{Report, part};
+use super::ends::{auts_of, challenge, opened};
+use super::report::{Case, Report};
 use aka::{CardEnd, NetworkEnd};
-use anyhow::anyhow;
-use rijndael::Rijndael;
+use block::Refusal;
 
 // A resynchronisation by the length of its AUTS, whose last byte is spoiled or not, and of its scratch; with a stale ticket or not.
-struct ResyncCase {
-    case: &'static str,
+struct ResyncCall {
     stale: bool,
     auts: usize,
     spoiled: bool,
     scratch: usize,
-    wanted: u8,
 }
+
+const GOOD: ResyncCall = ResyncCall {
+    stale: false,
+    auts: 14,
+    spoiled: false,
+    scratch: 96,
+};
 
 #[rattlefmt::skip]
-const RESYNCS: [ResyncCase; 11] = [
-    ResyncCase { case: "the card's AUTS", stale: false, auts: 14, spoiled: false, scratch: 96, wanted: 0 },
-    ResyncCase { case: "scratch 95", stale: false, auts: 14, spoiled: false, scratch: 95, wanted: 12 },
-    ResyncCase { case: "scratch 0 and stale", stale: true, auts: 14, spoiled: false, scratch: 0, wanted: 12 },
-    ResyncCase { case: "scratch 95 and AUTS 13", stale: false, auts: 13, spoiled: false, scratch: 95, wanted: 12 },
-    ResyncCase { case: "scratch 95 and MAC", stale: false, auts: 14, spoiled: true, scratch: 95, wanted: 12 },
-    ResyncCase { case: "stale", stale: true, auts: 14, spoiled: false, scratch: 96, wanted: 14 },
-    ResyncCase { case: "stale and AUTS 0", stale: true, auts: 0, spoiled: false, scratch: 96, wanted: 14 },
-    ResyncCase { case: "stale and MAC", stale: true, auts: 14, spoiled: true, scratch: 96, wanted: 14 },
-    ResyncCase { case: "AUTS 13", stale: false, auts: 13, spoiled: false, scratch: 96, wanted: 15 },
-    ResyncCase { case: "AUTS 0", stale: false, auts: 0, spoiled: false, scratch: 96, wanted: 15 },
-    ResyncCase { case: "MAC", stale: false, auts: 14, spoiled: true, scratch: 96, wanted: 16 },
+const RESYNCS: [Case<ResyncCall>; 11] = [
+    Case { case: "the card's AUTS", asked: GOOD, wanted: None },
+    Case { case: "scratch 95", asked: ResyncCall { scratch: 95, ..GOOD }, wanted: Some(Refusal::Buffer) },
+    Case { case: "scratch 0 and stale", asked: ResyncCall { stale: true, scratch: 0, ..GOOD }, wanted: Some(Refusal::Buffer) },
+    Case { case: "scratch 95 and AUTS 13", asked: ResyncCall { auts: 13, scratch: 95, ..GOOD }, wanted: Some(Refusal::Buffer) },
+    Case { case: "scratch 95 and MAC", asked: ResyncCall { spoiled: true, scratch: 95, ..GOOD }, wanted: Some(Refusal::Buffer) },
+    Case { case: "stale", asked: ResyncCall { stale: true, ..GOOD }, wanted: Some(Refusal::Stale) },
+    Case { case: "stale and AUTS 0", asked: ResyncCall { stale: true, auts: 0, ..GOOD }, wanted: Some(Refusal::Stale) },
+    Case { case: "stale and MAC", asked: ResyncCall { stale: true, spoiled: true, ..GOOD }, wanted: Some(Refusal::Stale) },
+    Case { case: "AUTS 13", asked: ResyncCall { auts: 13, ..GOOD }, wanted: Some(Refusal::Message) },
+    Case { case: "AUTS 0", asked: ResyncCall { auts: 0, ..GOOD }, wanted: Some(Refusal::Message) },
+    Case { case: "MAC", asked: ResyncCall { spoiled: true, ..GOOD }, wanted: Some(Refusal::Mac) },
 ];
 
-fn network() -> anyhow::Result<NetworkEnd<Rijndael>> {
-    match NetworkEnd::open(kernel()?, part(32), part(128), SMALLEST, &[0; 6]) {
-        Ok(end) => Ok(end),
-        Err(_) => Err(anyhow!("the network end was refused")),
-    }
-}
-
-// A card that is ahead of the network end.
-fn card() -> anyhow::Result<CardEnd<Rijndael>> {
-    match CardEnd::open(kernel()?, part(32), part(128), SMALLEST, &[9; 6]) {
-        Ok(end) => Ok(end),
-        Err(_) => Err(anyhow!("the card was refused")),
-    }
-}
-
-// What the card writes as AUTS at the challenge of a vector.
-fn auts_of(card: &mut CardEnd<Rijndael>, vector: [u8; 68]) -> [u8; 14] {
-    let mut answer = [0; 36];
-    let mut auts = [0; 14];
-    let mut scratch = [0; 96];
-    let _ = card.receive(
-        &vector[0..16],
-        &vector[52..68],
-        &mut answer,
-        &mut auts,
-        &mut scratch,
-    );
-    auts
-}
-
-fn attempt(c: &ResyncCase) -> anyhow::Result<u8> {
-    let mut network = network()?;
-    let mut card = card()?;
+// Resynchronises a network end with a card that is ahead of it.
+fn attempt(c: &ResyncCall) -> anyhow::Result<Option<Refusal>> {
+    let mut network = opened(NetworkEnd::open, [0; 6])?;
+    let mut card = opened(CardEnd::open, [9; 6])?;
     let mut vector = [0; 68];
-    let mut scratch = [0; 96];
-    let Ok(ticket) = network.challenge(part(16), part(2), &mut vector, &mut scratch) else {
-        return Err(anyhow!("the challenge was refused"));
-    };
-    let mut auts = auts_of(&mut card, vector);
+    let ticket = challenge(&mut network, &mut vector)?;
+    let mut auts = auts_of(&mut card, &vector);
     if c.spoiled {
         auts[13] ^= 1;
     }
     if c.stale {
-        if let Ok(next) = network.challenge(part(16), part(2), &mut vector, &mut scratch) {
-            let _ = network.lapse(next);
-        }
+        let next = challenge(&mut network, &mut vector);
+        let _ = next.and_then(|ticket| network.lapse(ticket));
     }
-    let n = c.auts.min(14);
-    let m = c.scratch.min(96);
-    match network.resync(ticket, &auts[0..n], &mut scratch[0..m]) {
-        Ok(_) => Ok(0),
-        Err(e) => Ok(e.number()),
-    }
+    let mut scratch = [0; 96];
+    let outcome = network.resync(
+        ticket,
+        &auts[0..c.auts.min(14)],
+        &mut scratch[0..c.scratch.min(96)],
+    );
+    Ok(outcome.err())
 }
 
 // The grounds of a resynchronisation.
-pub fn check(rt: &HostRuntime, report: &mut Report) -> anyhow::Result<()> {
-    for c in &RESYNCS {
-        report.expect(rt, "resync", c.case, c.wanted, attempt(c)?)?;
-    }
-    Ok(())
+pub fn check(report: &mut Report<'_>) -> anyhow::Result<()> {
+    report.expect_each("resync", &RESYNCS, attempt)
 }

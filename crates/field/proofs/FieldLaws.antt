@@ -5,18 +5,19 @@ use Prim.Native.Nat.{ℕ, zero, suc, ◌*◌, ◌/◌, ◌%◌, ◌<◌}
 use native.Mathlib.Nat.{add-zero}
 use native.Mathlib.Omega.{arith}
 use lib.Bits.{bit_and, bit_xor, xor_assoc, xor_comm, xor_block, xor_shr, xor_lt, xor_zero_r}
-use lib.Dec.{eqb, eqb→eq, lit<}
+use lib.Dec.{eqb, lit<}
+use Rattle.std.proofs.lemmas.Bool.{eqb-true}
 use Rattle.field.specs.Field.{xtime, product, mul, power, inverse, bit, affine_bit, unaffine_bit, of_bits, affine, unaffine, s_box, un_s_box}
 use Rattle.field.proofs.Every.{agree, under, every, passes}
 
 pub xtime_byte : (b : ℕ) → b < 256 → xtime b < 256
 unfolding xtime
-xtime_byte = under xtime 256 tt
+xtime_byte = under xtime 256 refl
 
 -- products made from doublings
 pub without_branch : (b : ℕ) → b < 256 → bit_xor (bit_and b 127 * 2 % 256) (b / 128 * 27) ≡ xtime b
 unfolding xtime
-without_branch = agree (λ b. bit_xor (bit_and b 127 * 2 % 256) (b / 128 * 27)) xtime tt
+without_branch = agree (λ b. bit_xor (bit_and b 127 * 2 % 256) (b / 128 * 27)) xtime refl
 
 pub by_01 : (b : ℕ) → b ≡ mul 0x01 b
 unfolding product mul
@@ -49,7 +50,7 @@ by_0e b = simp xor_zero_r
 -- inverses
 pub inverse_is : (b : ℕ) → b < 256 → mul b (inverse b) ≡ cond (eqb b 0) 0 1
 unfolding xtime product mul power inverse
-inverse_is = agree (λ b. mul b (inverse b)) (λ b. cond (eqb b 0) 0 1) tt
+inverse_is = agree (λ b. mul b (inverse b)) (λ b. cond (eqb b 0) 0 1) refl
 
 pub inverse_zero : inverse 0 ≡ 0
 unfolding xtime product mul power inverse
@@ -57,19 +58,19 @@ inverse_zero = refl
 
 pub s_box_byte : (b : ℕ) → b < 256 → s_box b < 256
 unfolding xtime product mul power inverse bit affine_bit of_bits affine s_box
-s_box_byte = under s_box 256 tt
+s_box_byte = under s_box 256 refl
 
 pub un_s_box_byte : (b : ℕ) → b < 256 → un_s_box b < 256
 unfolding xtime product mul power inverse bit unaffine_bit of_bits unaffine un_s_box
-un_s_box_byte = under un_s_box 256 tt
+un_s_box_byte = under un_s_box 256 refl
 
 pub un_s_box_s_box : (b : ℕ) → b < 256 → un_s_box (s_box b) ≡ b
 unfolding xtime product mul power inverse bit affine_bit unaffine_bit of_bits affine unaffine s_box un_s_box
-un_s_box_s_box = agree (λ b. un_s_box (s_box b)) (λ b. b) tt
+un_s_box_s_box = agree (λ b. un_s_box (s_box b)) (λ b. b) refl
 
 pub s_box_un_s_box : (b : ℕ) → b < 256 → s_box (un_s_box b) ≡ b
 unfolding xtime product mul power inverse bit affine_bit unaffine_bit of_bits affine unaffine s_box un_s_box
-s_box_un_s_box = agree (λ b. s_box (un_s_box b)) (λ b. b) tt
+s_box_un_s_box = agree (λ b. s_box (un_s_box b)) (λ b. b) refl
 
 -- the product is linear in its second factor
 pub swap : (a b c d : ℕ) → bit_xor (bit_xor a b) (bit_xor c d) ≡ bit_xor (bit_xor a c) (bit_xor b d)
@@ -80,15 +81,15 @@ swap a b c d =
 
 xtime_split : (b : ℕ) → b < 256 → xtime b ≡ bit_xor (b * 2) (b / 128 * 283)
 unfolding xtime
-xtime_split = agree xtime (λ b. bit_xor (b * 2) (b / 128 * 283)) tt
+xtime_split = agree xtime (λ b. bit_xor (b * 2) (b / 128 * 283)) refl
 
 double_xor : (x y : ℕ) → bit_xor x y * 2 ≡ bit_xor (x * 2) (y * 2)
 double_xor x y = let e = xor_block 1 x y 0 0 (lit< tt) (lit< tt) in simp add-zero at (sym e)
 
 carry_xor : (p q : ℕ) → p < 2 → q < 2 → bit_xor p q * 283 ≡ bit_xor (p * 283) (q * 283)
 carry_xor p q h k =
-    eqb→eq _ _ (passes 2 (λ q. eqb (bit_xor p q * 283) (bit_xor (p * 283) (q * 283)))
-    (passes 2 (λ p. every 2 (λ q. eqb (bit_xor p q * 283) (bit_xor (p * 283) (q * 283)))) tt p h) q k)
+    eqb-true _ _ (passes 2 (λ q. eqb (bit_xor p q * 283) (bit_xor (p * 283) (q * 283)))
+    (passes 2 (λ p. every 2 (λ q. eqb (bit_xor p q * 283) (bit_xor (p * 283) (q * 283)))) refl p h) q k)
 
 pub xtime_xor : (x y : ℕ) → x < 256 → y < 256 → xtime (bit_xor x y) ≡ bit_xor (xtime x) (xtime y)
 xtime_xor x y h k =

@@ -1,5 +1,5 @@
 -- The field of 256 elements: bytes as polynomials over GF(2), modulo x⁸ + x⁴ + x³ + x + 1.
-use Rattle.std.specs.Prelude.{cond, ◌≡◌, List, ℕ, zero, suc, ◌+◌, ◌*◌, ◌/◌, ◌%◌, ◌<◌, ltb, eqb, get_or}
+use Rattle.std.specs.Prelude.{cond, ℕ, zero, suc, ◌+◌, ◌*◌, ◌/◌, ◌%◌, ltb, eqb}
 use Rattle.std.specs.Int.Bits.{bit_xor}
 
 -- x times a
@@ -53,7 +53,3 @@ s_box a = affine (inverse a)
 
 unfoldable pub un_s_box : ℕ → ℕ
 un_s_box a = inverse (unaffine a)
-
--- a table that holds f b at each byte b
-pub record Tabulates (f : ℕ → ℕ) (t : List ℕ) : Type 0 where
-  pub entry : (b : ℕ) → b < 256 → get_or t b 0 ≡ f b

@@ -1,5 +1,5 @@
 ghost use Rattle.std.specs.Prelude.{◌≡◌};
-ghost use Rattle.field.specs.Field.{xtime, s_box, un_s_box, Tabulates};
+ghost use Rattle.field.specs.Field.{xtime, s_box, un_s_box};
 ghost use Rattle.field.specs.Inverses.{InverseLaws};
 
 const SBOX: [u8; 256] = *b"\
@@ -20,7 +20,7 @@ const SBOX: [u8; 256] = *b"\
     \xe1\xf8\x98\x11\x69\xd9\x8e\x94\x9b\x1e\x87\xe9\xce\x55\x28\xdf\
     \x8c\xa1\x89\x0d\xbf\xe6\x42\x68\x41\x99\x2d\x0f\xb0\x54\xbb\x16";
 
-const INVERSE_SBOX: [u8; 256] = *b"\
+const SBOX_INVERSE: [u8; 256] = *b"\
     \x52\x09\x6a\xd5\x30\x36\xa5\x38\xbf\x40\xa3\x9e\x81\xf3\xd7\xfb\
     \x7c\xe3\x39\x82\x9b\x2f\xff\x87\x34\x8e\x43\x44\xc4\xde\xe9\xcb\
     \x54\x7b\x94\x32\xa6\xc2\x23\x3d\xee\x4c\x95\x0b\x42\xfa\xc3\x4e\
@@ -45,35 +45,21 @@ pub fn double(b: u8) -> u8
     ((b & 0x7f) << 1) ^ ((b >> 7) * 0x1b)
 }
 
-fn substitution_table() -> &'static [u8; 256]
-    ensures { Tabulates s_box result.now }
-{
-    &SBOX
-}
-
-fn inverse_table() -> &'static [u8; 256]
-    ensures { Tabulates un_s_box result.now }
-{
-    &INVERSE_SBOX
-}
-
 // The substitution of a byte.
 pub fn substitute(b: u8) -> u8
     ensures { result ≡ s_box b }
 {
-    substitution_table()[b as usize]
+    SBOX[usize::from(b)]
 }
 
 // The inverse substitution of a byte.
 pub fn restore(b: u8) -> u8
     ensures { result ≡ un_s_box b }
 {
-    inverse_table()[b as usize]
+    SBOX_INVERSE[usize::from(b)]
 }
 
 // The two substitutions undo each other, and an inverse is one.
-pub fn inverse_laws_stand() -> u8
+pub fn inverse_laws_stand()
     ensures { InverseLaws }
-{
-    0
-}
+{}

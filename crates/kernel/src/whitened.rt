@@ -1,5 +1,5 @@
-ghost use Rattle.std.specs.Prelude.{◌≡◌, length};
-ghost use Rattle.block.specs.Bytes.{AreBytes};
+ghost use Rattle.std.specs.Prelude.{◌≡◌};
+ghost use Rattle.block.specs.Bytes.{IsBlock};
 ghost use Rattle.block.specs.Refusals.{Answers};
 ghost use Rattle.kernel.specs.Layers.{whitened as between, mask_ground};
 ghost use Rattle.kernel.specs.LayerLaws.{whitened_undone, whitened_block};
@@ -13,10 +13,8 @@ pub struct Whitened<K> {
     below: K,
     before: [u8; 32],
     behind: [u8; 32],
-    ghost before_long: { length before ≡ 32 },
-    ghost before_bytes: { AreBytes before },
-    ghost behind_long: { length behind ≡ 32 },
-    ghost behind_bytes: { AreBytes behind },
+    ghost before_block: { IsBlock before },
+    ghost behind_block: { IsBlock behind },
 }
 
 impl<K: Drop> Whitened<K> {
@@ -24,13 +22,8 @@ impl<K: Drop> Whitened<K> {
     pub fn new(below: K, a: &[u8], b: &[u8]) -> Result<Whitened<K>, Refusal>
         ensures { Answers (mask_ground a.now b.now) result (λ k. (k.below ≡ below) × (k.before ≡ a.now) × (k.behind ≡ b.now)) }
     {
-        if a.len() != 32 || b.len() != 32 {
-            return Err(Refusal::Key);
-        }
-        let mut before = [0; 32];
-        before.copy_from_slice(a);
-        let mut behind = [0; 32];
-        behind.copy_from_slice(b);
+        let before = <[u8; 32]>::try_from(a).map_err(|_| Refusal::Key)?;
+        let behind = <[u8; 32]>::try_from(b).map_err(|_| Refusal::Key)?;
         Ok(Whitened {
             below,
             before,
@@ -45,23 +38,19 @@ impl<K: Kernel> Kernel for Whitened<K> {
     ghost back = { λ k. between k.behind k.before (K.Kernel.back k.below) };
 
     ghost back_forth = { λ k.
-        whitened_undone k.before k.behind (K.Kernel.forth k.below) (K.Kernel.back k.below)
-        (record { long = k.before_long; bytes = k.before_bytes }) (record { long = k.behind_long; bytes = k.behind_bytes })
+        whitened_undone k.before k.behind (K.Kernel.forth k.below) (K.Kernel.back k.below) k.before_block k.behind_block
         (K.Kernel.forth_block k.below) (K.Kernel.back_forth k.below) };
 
     ghost forth_back = { λ k.
-        whitened_undone k.behind k.before (K.Kernel.back k.below) (K.Kernel.forth k.below)
-        (record { long = k.behind_long; bytes = k.behind_bytes }) (record { long = k.before_long; bytes = k.before_bytes })
+        whitened_undone k.behind k.before (K.Kernel.back k.below) (K.Kernel.forth k.below) k.behind_block k.before_block
         (K.Kernel.back_block k.below) (K.Kernel.forth_back k.below) };
 
     ghost forth_block = { λ k.
-        whitened_block k.before k.behind (K.Kernel.forth k.below)
-        (record { long = k.before_long; bytes = k.before_bytes }) (record { long = k.behind_long; bytes = k.behind_bytes })
+        whitened_block k.before k.behind (K.Kernel.forth k.below) k.before_block k.behind_block
         (K.Kernel.forth_block k.below) };
 
     ghost back_block = { λ k.
-        whitened_block k.behind k.before (K.Kernel.back k.below)
-        (record { long = k.behind_long; bytes = k.behind_bytes }) (record { long = k.before_long; bytes = k.before_bytes })
+        whitened_block k.behind k.before (K.Kernel.back k.below) k.behind_block k.before_block
         (K.Kernel.back_block k.below) };
 
     fn encrypt(&self, x: [u8; 32]) -> [u8; 32] {

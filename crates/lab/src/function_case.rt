@@ -1,6 +1,7 @@
-use super::verdict;
-use anyhow::anyhow;
-use cases::{Function, FunctionCase, OpcBlock, Opened, Traced, function_tests_of};
+use super::compared::Compared;
+use anyhow::Context;
+use cases::{FunctionCase, Labelled, OpcBlock, Opened, Traced, function_tests_of, output_label};
+use milenage::Function;
 use published::{Hex, Tally};
 use std::fs;
 
@@ -30,12 +31,12 @@ fn show_function(
     }
     let answer = trace.block(Traced::Answer);
     let computed = case.cut(function, &answer)?;
-    let Some(published) = case.output(function) else {
-        return Err(anyhow!("a case has the outputs of all eight functions"));
-    };
-    let told = verdict(tally.compare(computed, published));
-    let label = function.output();
-    println!(rt; "  {name:<4} {label:<8} {} {told}", Hex(computed))?;
+    let published = case
+        .output(function)
+        .context("a case has the outputs of all eight functions")?;
+    let compared = Compared::new(computed, published, tally);
+    let label = output_label(function);
+    println!(rt; "  {name:<4} {label:<8} {compared}")?;
     Ok(())
 }
 
@@ -48,11 +49,7 @@ pub fn show(rt: &HostRuntime) -> anyhow::Result<()> {
         println!(rt; "=== {} ===", test.name)?;
         let opened = test.open()?;
         show_opc(rt, &opened)?;
-        let opc = test.compare_opc(&opened);
-        println!(rt;
-            "blocks of OPc: {} compared, {} differ",
-            opc.compared, opc.differing
-        )?;
+        println!(rt; "blocks of OPc: {}", test.compare_opc(&opened))?;
         for case in &test.cases {
             println!(rt; "{}", case.name)?;
             for function in Function::ALL {
@@ -60,8 +57,6 @@ pub fn show(rt: &HostRuntime) -> anyhow::Result<()> {
             }
         }
     }
-    let compared = tally.compared;
-    let differing = tally.differing;
-    println!(rt; "outputs: {compared} compared, {differing} differ")?;
+    println!(rt; "outputs: {tally}")?;
     Ok(())
 }

@@ -1,19 +1,16 @@
-use super::verdict;
+use super::compared::Compared;
 use cases::{KernelCase, kernel_cases_of};
-use published::{Hex, Tally};
+use published::Tally;
 use std::fs;
 
 const CASES: &str = "kernel_cases.txt";
 
 // Runs a case forth and back, and prints both blocks.
 fn run_case(rt: &HostRuntime, case: &KernelCase, tally: &mut Tally) -> anyhow::Result<()> {
-    let name = &case.name;
-    println!(rt; "=== {name} ===")?;
+    println!(rt; "=== {} ===", case.name)?;
     let run = case.run(tally)?;
-    let forth = verdict(run.forth_agrees);
-    println!(rt; "  Y    {} {forth}", Hex(&run.y))?;
-    let back = verdict(run.back_agrees);
-    println!(rt; "  back {} {back}", Hex(&run.x))?;
+    println!(rt; "  Y    {}", Compared::from(&run.forth))?;
+    println!(rt; "  back {}", Compared::from(&run.back))?;
     Ok(())
 }
 
@@ -25,8 +22,10 @@ pub fn check(rt: &HostRuntime) -> anyhow::Result<()> {
     for case in &cases {
         run_case(rt, case, &mut tally)?;
     }
-    let compared = tally.compared;
-    let differing = tally.differing;
+    let Tally {
+        compared,
+        differing,
+    } = tally;
     println!(rt; "kernel cases: {compared} blocks compared, {differing} differ")?;
     Ok(())
 }

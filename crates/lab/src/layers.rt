@@ -14,15 +14,16 @@ const MASK_B: [u8; 32] = [0x5a; 32];
 
 const BLOCK: [u8; 32] = *b"one block through all the layers";
 
-// The kernel of a key, or the refusal, printed.
-fn kernel_of(rt: &HostRuntime, key: &[u8]) -> anyhow::Result<Rijndael> {
-    match Rijndael::new(key) {
-        Ok(k) => Ok(k),
-        Err(e) => {
-            println!(rt; "  refused {e}")?;
-            Err(anyhow!("a key was refused"))
-        }
+// What was made, or why it was refused, printed before the program fails with a message.
+fn made<T: Drop>(
+    rt: &HostRuntime,
+    outcome: Result<T, Refusal>,
+    message: &str,
+) -> anyhow::Result<T> {
+    if let Err(e) = &outcome {
+        println!(rt; "  refused {e}")?;
     }
+    outcome.map_err(|_| anyhow!("{message}"))
 }
 
 fn step(rt: &HostRuntime, label: &str, block: [u8; 32]) -> anyhow::Result<()> {
@@ -75,15 +76,10 @@ pub fn show(rt: &HostRuntime) -> anyhow::Result<()> {
     step(rt, "second key", SECOND_KEY)?;
     step(rt, "mask a", MASK_A)?;
     step(rt, "mask b", MASK_B)?;
-    let first = kernel_of(rt, &FIRST_KEY)?;
-    let second = kernel_of(rt, &SECOND_KEY)?;
+    let first = made(rt, Rijndael::new(&FIRST_KEY), "a key was refused")?;
+    let second = made(rt, Rijndael::new(&SECOND_KEY), "a key was refused")?;
     let y = show_forth(rt, &first, &second)?;
     show_back(rt, &first, &second, y)?;
-    match Whitened::new(Chained::new(first, second), &MASK_A, &MASK_B) {
-        Ok(layers) => show_whole(rt, &layers),
-        Err(e) => {
-            println!(rt; "  refused {e}")?;
-            Err(anyhow!("the masks were refused"))
-        }
-    }
+    let layers = Whitened::new(Chained::new(first, second), &MASK_A, &MASK_B);
+    show_whole(rt, &made(rt, layers, "the masks were refused")?)
 }

@@ -1,20 +1,16 @@
 // The lab: the kernel against its published cases, a block forth and back through layers, then one case of the functions block by block.
 #![tactic(auto)]
 
+mod compared;
 mod follower;
 mod function_case;
 mod kernel_cases;
+mod latest;
 mod layers;
-mod log_line;
 mod round_keys;
 mod sessions;
 
 use std::io;
-
-// How a comparison is told.
-fn verdict(agrees: bool) -> &'static str {
-    if agrees { "equal" } else { "differs" }
-}
 
 fn run(rt: &HostRuntime) -> anyhow::Result<()> {
     kernel_cases::check(rt)?;

@@ -1,21 +1,12 @@
-use super::verdict;
-use anyhow::anyhow;
-use block::Refusal;
-use published::{Hex, Line, Tally, bytes_of, line_of};
+use super::compared::Compared;
+use anyhow::{Context, anyhow};
+use published::{Line, Tally, bytes_of};
 use rijndael::Rijndael;
 use std::fs;
 
 const ROUND_KEYS: &str = "round_keys.txt";
 
-// The number of a round key, from a label such as rk3.
-fn place_of(label: &str) -> anyhow::Result<usize> {
-    match label.strip_prefix("rk") {
-        Some(digits) => Ok(digits.parse::<usize>()?),
-        None => Err(anyhow!("a round key has a label such as rk3")),
-    }
-}
-
-// Compares one round key of the key with what is published.
+// Compares one round key of the key, under a label such as rk3, with what is published.
 fn compare(
     rt: &HostRuntime,
     key: &[u8],
@@ -23,36 +14,35 @@ fn compare(
     published: &[u8],
     tally: &mut Tally,
 ) -> anyhow::Result<()> {
-    let n = place_of(label)?;
-    let Ok(kernel) = Rijndael::new(key) else {
-        return Err(anyhow!("a published key was refused"));
-    };
-    let Some(computed) = kernel.round_key(n) else {
-        return Err(anyhow!("there are fifteen round keys"));
-    };
-    let told = verdict(tally.compare(&computed, published));
-    println!(rt; "  {label:<5}{} {told}", Hex(&computed))?;
+    let n = label
+        .strip_prefix("rk")
+        .context("a round key has a label such as rk3")?
+        .parse::<usize>()?;
+    let computed = Rijndael::new(key)
+        .map_err(|_| anyhow!("a published key was refused"))?
+        .round_key(n)
+        .context("there are fifteen round keys")?;
+    let compared = Compared::new(&computed, published, tally);
+    println!(rt; "  {label:<5}{compared}")?;
     Ok(())
 }
 
 // Compares the published round keys of one key.
 pub fn check(rt: &HostRuntime) -> anyhow::Result<()> {
     println!(rt; "=== round keys of TEST #1 ===")?;
+    let heap = rt.alloc();
     let text = fs::read_to_string(rt, ROUND_KEYS)?;
-    let mut key = Vec::new(rt.alloc());
+    let mut key = Vec::new(heap);
     let mut tally = Tally::new();
     for line in text.lines() {
-        if let Line::Value(label, hex) = line_of(line) {
-            let bytes = bytes_of(rt.alloc(), hex)?;
-            if label == "KEY" {
-                key = bytes;
-            } else {
-                compare(rt, &key, label, &bytes, &mut tally)?;
+        match Line::from(line) {
+            Line::Value("KEY", hex) => key = bytes_of(heap, hex)?,
+            Line::Value(label, hex) => {
+                compare(rt, &key, label, &bytes_of(heap, hex)?, &mut tally)?;
             }
+            _ => {}
         }
     }
-    let compared = tally.compared;
-    let differing = tally.differing;
-    println!(rt; "round keys: {compared} compared, {differing} differ")?;
+    println!(rt; "round keys: {tally}")?;
     Ok(())
 }

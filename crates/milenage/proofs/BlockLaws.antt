@@ -1,22 +1,17 @@
 -- Answer blocks, and what they tell.
-use Rattle.std.proofs.Common.{◌≡◌, ℕ, ◌≤◌, List, ◌++◌, length, drop, sym, ap, ◌∙◌, append_assoc, arith, length-append}
-use Rattle.std.proofs.lemmas.List.{take_all, drop_at, length-take-le}
+use Rattle.std.proofs.Common.{◌≡◌, ℕ, ◌≤◌, List, [], ◌∷◌, length, sym, refl, ap, ◌∙◌, append_assoc, append-nil, arith}
+use Rattle.std.specs.List.{concat}
+use Rattle.std.proofs.lemmas.List.{length-take-le}
 use Rattle.block.specs.Bytes.{AreBytes, IsBlock, ◌⊕◌, filled}
-use Rattle.block.proofs.ByteLaws.{length_⊕, ⊕_comm, ⊕_apart, block_⊕, length_filled, block_filled, take_filled}
+use Rattle.block.proofs.ByteLaws.{length_⊕, ⊕_comm, ⊕_apart, block_⊕, block_filled}
+use Rattle.milenage.specs.declared.question.Question.{Question as Held}
 use Rattle.milenage.specs.Question.{Question, Admissible, input}
 use Rattle.milenage.specs.Blocks.{Keyed, temp, answer, block, output, trace_of}
+use Rattle.milenage.specs.Calls.{Tells, input_of}
 use Rattle.milenage.specs.Laws.{Sound}
-use Rattle.milenage.proofs.QuestionLaws.{block_input}
-
--- a whole block needs no filling
-pub filled_whole : (x : List ℕ) → length x ≡ 32 → filled x ≡ x
-filled_whole x l = sym (take_all 32 (filled x) (omega (arith, length_filled x))) ∙ take_filled 32 x l (omega arith)
+use Rattle.milenage.proofs.QuestionLaws.{block_input, told_input}
 
 -- ── lengths ──
-
-pub length_temp : (m : Keyed) (rand : List ℕ) → length m.opc ≡ 32 → 32 ≤ length (temp m rand)
-unfolding temp
-length_temp m rand h = omega (arith, length_⊕ (m.forth (filled rand ⊕ m.opc)) m.opc)
 
 pub length_answer : (m : Keyed) (t inn : List ℕ) → length m.opc ≡ 32 → 32 ≤ length (answer m t inn)
 unfolding answer
@@ -72,25 +67,18 @@ temp_same m rand rand' e = ap (λ (x : List ℕ). m.forth (x ⊕ m.opc) ⊕ m.op
 
 -- ── the trace ──
 
--- the trace ends with the answer block
-pub trace_ends : (m : Keyed) → ((x : List ℕ) → IsBlock x → IsBlock (m.forth x)) → Sound m
-    → (rand : List ℕ) (q : Question) → AreBytes rand → Admissible q → AreBytes q.carried → drop 160 (trace_of m rand q) ≡ block m rand q
-unfolding trace_of
-trace_ends m f s rand q h a c =
-    let x : List ℕ = filled rand ⊕ m.opc in
-    let inn : List ℕ = input m.constants q in
-    let y : List ℕ = temp m rand ⊕ inn in
-    let hx : IsBlock x = block_⊕ (filled rand) m.opc (block_filled rand h) s.opc in
-    let hi : IsBlock inn = block_input m.constants q s.constants_long s.constants_bytes a c in
-    let hy : IsBlock y = block_⊕ (temp m rand) inn (block_temp m f s.opc rand h) hi in
-    drop_at (x ++ m.forth x ++ inn ++ y ++ m.forth y) (block m rand q) 160
-    (simp length-append (omega (arith, hx.long, (f x hx).long, hi.long, hy.long, (f y hy).long)))
-
-pub trace_laid : (m : Keyed) (rand : List ℕ) (q : Question) (first made inn t second made' last : List ℕ)
-    → first ≡ filled rand ⊕ m.opc → made ≡ m.forth (filled rand ⊕ m.opc) → inn ≡ input m.constants q
-    → t ≡ m.forth (filled rand ⊕ m.opc) ⊕ m.opc
-    → second ≡ t ⊕ inn → made' ≡ m.forth (t ⊕ inn) → last ≡ m.forth (t ⊕ inn) ⊕ m.opc
-    → first ++ made ++ inn ++ (second ++ made') ++ last ≡ trace_of m rand q
-unfolding trace_of temp block answer
-trace_laid m rand q first made inn t second made' last e₁ e₂ e₃ e₄ e₅ e₆ e₇ =
-    ap (λ (x : List ℕ). x ++ last) (sym (append_assoc (first ++ made ++ inn) second made')) ∙ (cc)
+-- the six blocks as a computation makes them, from TEMP and what the code holds of a question
+pub trace_made : (m n : Keyed) (rand t inn : List ℕ) (h : Held) (q : Question) → Tells h q → n ≡ m
+    → t ≡ m.forth (filled rand ⊕ m.opc) ⊕ m.opc → inn ≡ input_of m.constants h
+    → concat
+    ((filled rand ⊕ m.opc)
+    ∷ m.forth (filled rand ⊕ m.opc)
+    ∷ inn
+    ∷ (t ⊕ input_of n.constants h)
+    ∷ n.forth (t ⊕ input_of n.constants h)
+    ∷ answer n t (input_of n.constants h)
+    ∷ [])
+    ≡ trace_of m rand q
+unfolding trace_of temp block
+trace_made m n rand t inn h q held same e i =
+    rw (same, e, i, told_input m.constants h q held) (simp (append_assoc, append-nil) refl)

@@ -1,5 +1,5 @@
 -- The grounds that are reported.
-use Rattle.std.proofs.Common.{◌≡◌, ℕ, ◌<◌, Bool, true, false, cond, arith, lit<}
+use Rattle.std.proofs.Common.{◌<◌, lit<}
 use Rattle.block.specs.declared.refusal.Refusal.{Refusal}
 use Rattle.block.specs.declared.refusal.Refusal.TheVariants.{Key, OperatorField, Constants, Name, Index, Size, Mask, Number, Rand, Amf, Carried, Buffer, Spent, Stale, Message, Mac, Behind}
 use Rattle.block.specs.Refusals.{number}
@@ -23,12 +23,3 @@ number_above_0 Stale = lit< tt
 number_above_0 Message = lit< tt
 number_above_0 Mac = lit< tt
 number_above_0 Behind = lit< tt
-
--- a ground of the question is one of the trace
-pub question_refused : (a b r d u : Bool) (n : ℕ) → 0 < n → n ≡ cond a 5 (cond b 6 (cond r 9 (cond d 11 0)))
-    → n ≡ cond a 5 (cond b 6 (cond r 9 (cond d 11 (cond u 12 0))))
-question_refused true b r d u n p h = h
-question_refused false true r d u n p h = h
-question_refused false false true d u n p h = h
-question_refused false false false true u n p h = h
-question_refused false false false false u n p h = absurd (omega arith)

@@ -4,6 +4,7 @@ use Rattle.block.specs.declared.refusal.Refusal.{Refusal}
 use Rattle.block.specs.Bytes.{◌⊕◌, zeros, over}
 use Rattle.block.specs.Refusals.{number}
 use Rattle.milenage.specs.declared.question.Question.{Question as Held}
+use Rattle.milenage.specs.Functions.{index_of}
 use Rattle.milenage.specs.Question.{Question, header, constant_of}
 use Rattle.milenage.specs.Blocks.{Keyed, trace_of}
 use Rattle.milenage.specs.Grounds.{trace_ground}
@@ -14,12 +15,12 @@ asked index rand_size size carried = record { index = index; rand_size = rand_si
 
 -- what the code holds of a question
 pub record Tells (h : Held) (q : Question) : Type 0 where
-  pub index : h.index ≡ q.index
+  pub index : index_of h.function ≡ q.index
   pub header : h.header ≡ header q
 
 -- IN, from what the code holds of a question
 unfoldable pub input_of : List ℕ → Held → List ℕ
-input_of constants h = h.header ⊕ (zeros 16 ++ constant_of constants h.index)
+input_of constants h = h.header ⊕ (zeros 16 ++ constant_of constants (index_of h.function))
 
 -- what the functions are computed with, by its parts
 abbrev pub keyed : (List ℕ → List ℕ) → List ℕ → List ℕ → Keyed

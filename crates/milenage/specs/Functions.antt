@@ -1,5 +1,27 @@
 -- The eight functions by their index: 0 f1*, 1 f1, 2 f2, 3 f3, 4 f4, 5 f5, 6 f5*, 7 f5**. Sizes count bytes.
-use Rattle.std.specs.Prelude.{ℕ, Bool, cond, ◌||◌, nat_lt}
+use Rattle.std.specs.Prelude.{ℕ, Bool, cond, ◌||◌, nat_lt, List, codes}
+use Rattle.milenage.specs.declared.function.Function.{Function}
+use Rattle.milenage.specs.declared.function.Function.TheVariants.{F1Star, F1, F2, F3, F4, F5, F5Star, F5StarStar}
+
+abbrev pub index_of : Function → ℕ
+index_of F1Star = 0
+index_of F1 = 1
+index_of F2 = 2
+index_of F3 = 3
+index_of F4 = 4
+index_of F5 = 5
+index_of F5Star = 6
+index_of F5StarStar = 7
+
+abbrev pub name_of : Function → List ℕ
+name_of F1Star = codes "f1*"
+name_of F1 = codes "f1"
+name_of F2 = codes "f2"
+name_of F3 = codes "f3"
+name_of F4 = codes "f4"
+name_of F5 = codes "f5"
+name_of F5Star = codes "f5*"
+name_of F5StarStar = codes "f5**"
 
 -- f1* and f1 yield a MAC; f2 a RES; f3 and f4 a CK and an IK; f5 and f5* an AK; f5** an AK out of a MAC-S
 pub data Kind : Type 0 where

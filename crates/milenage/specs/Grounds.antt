@@ -24,6 +24,10 @@ question_grounds index rand size carried more =
     ∷ (11 when bad_carried (kind_of index) carried)
     ∷ more
 
+-- that of the index alone
+abbrev pub index_ground : ℕ → ℕ
+index_ground index = first ((5 when ltb 7 index) ∷ [])
+
 -- those of the index and the output size alone
 abbrev pub size_ground : ℕ → ℕ → ℕ
 size_ground index size = first ((5 when ltb 7 index) ∷ (6 when bad_size (kind_of index) size) ∷ [])

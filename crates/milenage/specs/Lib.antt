@@ -3,5 +3,5 @@ pub mod Question
 pub mod Blocks
 pub mod Grounds
 pub mod Calls
-pub mod Steps
+pub mod Views
 pub mod Laws

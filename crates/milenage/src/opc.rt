@@ -1,11 +1,11 @@
 ghost use Rattle.std.specs.Prelude.{◌≡◌, ◌≤◌, length};
-ghost use Rattle.block.specs.Bytes.{◌⊕◌, zeros};
+ghost use Rattle.block.specs.Bytes.{zeros};
 ghost use Rattle.block.specs.Refusals.{Answers};
 ghost use Rattle.milenage.specs.Blocks.{opc_of, version_block};
-ghost use Rattle.milenage.specs.Grounds.{derive_ground, holds_zero};
+ghost use Rattle.milenage.specs.Grounds.{derive_ground};
 
-use super::scratch::{OUTPUT, get_block, run};
-use block::{Refusal, Wipe, fill_block, xor_blocks};
+use super::scratch::{run, split_scratch};
+use block::{Refusal, Wipe, xor_blocks};
 use kernel::Kernel;
 
 // The first byte of V: a key of 32 bytes.
@@ -22,28 +22,17 @@ pub fn derive_opc<K: Kernel>(
     ensures derived { Answers (derive_ground op.now name.now (length scratch.old)) result (λ v. v ≡ opc_of (K.Kernel.forth kernel.now) name.now op.now) }
 {
     let guard = Wipe(scratch);
-    if op.len() != 32 {
+    let Ok(op) = <[u8; 32]>::try_from(op) else {
         return Err(Refusal::OperatorField);
-    }
-    if name.len() > 31 || holds_zero(name) {
+    };
+    if name.len() > 31 || name.contains(&0) {
         return Err(Refusal::Name);
     }
-    if guard.0.len() < 96 {
+    let Some((_, work)) = split_scratch(guard.0) else {
         return Err(Refusal::Buffer);
-    }
-    Ok(masked(kernel, fill_block(op), version_block(name), guard.0))
-}
-
-// Whether a name holds the byte 00.
-fn holds_zero(name: &[u8]) -> bool
-    ensures { result ≡ holds_zero name.now }
-{
-    for b in name {
-        if *b == 0 {
-            return true;
-        }
-    }
-    false
+    };
+    let x = xor_blocks(run(kernel, op, work), version_block(name));
+    Ok(xor_blocks(op, run(kernel, x, work)))
 }
 
 // V: the key size's byte, the name, zeros.
@@ -56,15 +45,4 @@ fn version_block(name: &[u8]) -> [u8; 32]
     let n = name.len();
     version[1..1 + n].copy_from_slice(name);
     version
-}
-
-// OP ⊕ forth(forth(OP) ⊕ V).
-fn masked<K: Kernel>(kernel: &K, op: [u8; 32], version: [u8; 32], scratch: &mut [u8]) -> [u8; 32]
-    requires { 96 ≤ length scratch.old }
-    ensures { result ≡ op ⊕ K.Kernel.forth kernel.now (K.Kernel.forth kernel.now op ⊕ version) }
-{
-    run(kernel, op, scratch);
-    let x = xor_blocks(get_block(scratch, OUTPUT), version);
-    run(kernel, x, scratch);
-    xor_blocks(op, get_block(scratch, OUTPUT))
 }

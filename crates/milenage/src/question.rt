@@ -1,11 +1,10 @@
-ghost use Rattle.std.specs.Prelude.{◌<◌};
+use super::function::Function;
 
 mod input;
 
-// A question that the functions admit: the function's index, and IN before its constant.
+// A question that the functions admit: the function, and IN before its constant.
 #[derive(Clone, Copy)]
 pub struct Question {
-    index: usize,
+    function: Function,
     header: [u8; 32],
-    ghost known: { index < 8 },
 }

@@ -1,42 +1,25 @@
-ghost use Rattle.std.specs.Prelude.{◌≡◌, ℕ, ◌+◌, ◌≤◌, length};
-ghost use Rattle.milenage.specs.Steps.{block_at};
+ghost use Rattle.std.specs.Prelude.{◌≡◌, ◌<◌, ◌≤◌, [], ◌∷◌, length, MatchOption};
 
 use kernel::Kernel;
 
-// Where the blocks lie in the scratch bytes.
-pub const TEMP: usize = 0;
+// Input and output of the last kernel run.
+pub type Work = [[u8; 32]; 2];
 
-pub const INPUT: usize = 32;
-
-pub const OUTPUT: usize = 64;
-
-// Puts a block into the scratch bytes. Blocks beside it stay.
-pub(crate) fn put_block(scratch: &mut [u8], at: usize, block: [u8; 32])
-    requires { at + 32 ≤ length scratch.old }
-    ensures here { block_at at scratch.new ≡ block }
-    ensures before { (k : ℕ) → k + 32 ≤ at → block_at k scratch.new ≡ block_at k scratch.old }
-    ensures behind { (k : ℕ) → at + 32 ≤ k → block_at k scratch.new ≡ block_at k scratch.old }
+// The blocks of lent scratch bytes: one for TEMP, which stays for every question, and those of a kernel run. None where they are fewer than 96.
+pub fn split_scratch(scratch: &mut [u8]) -> Option<(&mut [u8; 32], &mut Work)>
+    ensures { MatchOption result (length scratch.old < 96) (λ _. 96 ≤ length scratch.old) }
 {
-    scratch[at..at + 32].copy_from_slice(&block);
+    let (blocks, _) = scratch.as_chunks_mut::<32>();
+    let (temp, rest) = blocks.split_first_mut()?;
+    let work = rest.first_chunk_mut::<2>()?;
+    Some((temp, work))
 }
 
-// Reads a block of the scratch bytes.
-pub(crate) fn get_block(scratch: &[u8], at: usize) -> [u8; 32]
-    requires { at + 32 ≤ length scratch.now }
-    ensures { result ≡ block_at at scratch.now }
+// The one run of a kernel: x and what the kernel makes of it stay in the scratch.
+pub(crate) fn run<K: Kernel>(kernel: &K, x: [u8; 32], work: &mut Work) -> [u8; 32]
+    ensures made { result ≡ K.Kernel.forth kernel.now x }
+    ensures ran { work.new ≡ x ∷ K.Kernel.forth kernel.now x ∷ [] }
 {
-    let mut block = [0; 32];
-    block.copy_from_slice(&scratch[at..at + 32]);
-    block
-}
-
-// The one run of a kernel: x and what the kernel makes of it go into the scratch bytes, and TEMP stays.
-pub(crate) fn run<K: Kernel>(kernel: &K, x: [u8; 32], scratch: &mut [u8])
-    requires { 96 ≤ length scratch.old }
-    ensures temp { block_at 0 scratch.new ≡ block_at 0 scratch.old }
-    ensures input { block_at 32 scratch.new ≡ x }
-    ensures output { block_at 64 scratch.new ≡ K.Kernel.forth kernel.now x }
-{
-    put_block(scratch, INPUT, x);
-    put_block(scratch, OUTPUT, kernel.encrypt(x));
+    *work = [x, kernel.encrypt(x)];
+    work[1]
 }

@@ -2,9 +2,9 @@
 #![tactic(auto)]
 
 mod compare;
-mod hex;
 mod lines;
+mod spelling;
 
 pub use compare::Tally;
-pub use hex::{Hex, Unread, bytes_of};
-pub use lines::{Line, line_of};
+pub use lines::Line;
+pub use spelling::{Hex, Unread, bytes_of};

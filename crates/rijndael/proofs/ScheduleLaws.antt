@@ -1,22 +1,28 @@
 -- The round constants, and that a key of bytes has round keys of bytes.
-use Rattle.std.proofs.Common.{◌≡◌, ℕ, zero, suc, ◌+◌, ◌-◌, ◌*◌, ◌/◌, ◌%◌, ◌<◌, Bool, true, false, cond, T, eqb, ltb, List, [], ◌∷◌, ◌++◌, length, get_or, refl, ◌∙◌, add-one, arith, lit<, eqb→eq}
+use Rattle.std.proofs.Common.{◌≡◌, ℕ, zero, suc, ◌+◌, ◌-◌, ◌*◌, ◌/◌, ◌%◌, ◌<◌, Bool, true, false, cond, eqb, ltb, List, [], ◌∷◌, ◌++◌, length, get_or, refl, ◌∙◌, add-one, arith, lit<}
 use lib.Bits.{bit_xor, xor_lt}
+use Rattle.std.proofs.lemmas.Bool.{eqb-true}
 use Rattle.block.specs.Bytes.{AreBytes}
 use Rattle.field.specs.Field.{xtime}
 use Rattle.field.proofs.Every.{every, passes}
 use Rattle.field.proofs.FieldLaws.{s_box_byte, xtime_byte}
+use Rattle.rijndael.specs.declared.schedule.TheConstants.{ROUND_CONSTANTS}
 use Rattle.rijndael.specs.State.{table, at}
 use Rattle.rijndael.specs.Schedule.{Doubling, doubled, constant, xor_word, rot_word, sub_word, change, next, more, words, schedule, round_key, round_keys}
 use Rattle.rijndael.specs.Cipher.{key as key_of, KeysAreBytes}
 use Rattle.rijndael.specs.StateLaws.{table_at, table_same}
 
 -- the round constants
-pub doubling : (t : List ℕ) → T (eqb (length t) 14) → T (eqb (get_or t 0 0) 0x01) → T (every 13 (λ i. eqb (get_or t (i + 1) 0) (xtime (get_or t i 0)))) → Doubling t
+doubling : (t : List ℕ) → length t ≡ 14 → get_or t 0 0 ≡ 0x01 → every 13 (λ i. eqb (get_or t (i + 1) 0) (xtime (get_or t i 0))) ≡ true → Doubling t
 doubling t a b d = record {
-  long = eqb→eq _ _ a;
-  starts = eqb→eq _ _ b;
-  doubles = λ i h. eqb→eq _ _ (passes 13 (λ i. eqb (get_or t (i + 1) 0) (xtime (get_or t i 0))) d i h);
+  long = a;
+  starts = b;
+  doubles = λ i h. eqb-true _ _ (passes 13 (λ i. eqb (get_or t (i + 1) 0) (xtime (get_or t i 0))) d i h);
 }
+
+pub constants_double : Doubling ROUND_CONSTANTS
+unfolding xtime
+constants_double = doubling ROUND_CONSTANTS refl refl refl
 
 pub are_doubled : (t : List ℕ) → Doubling t → (k : ℕ) → k < 14 → get_or t k 0 ≡ doubled k
 unfolding doubled

@@ -1,5 +1,5 @@
 -- The state: four rows of eight bytes. Each step says which byte stands in row r and column c after it.
-use Rattle.std.specs.Prelude.{ℕ, zero, suc, ◌+◌, ◌-◌, ◌*◌, ◌/◌, ◌%◌, List, [], ◌∷◌, get_or}
+use Rattle.std.specs.Prelude.{ℕ, zero, suc, ◌+◌, ◌-◌, ◌*◌, ◌/◌, ◌%◌, ◌<◌, ◌≡◌, List, [], ◌∷◌, length, get_or}
 use Rattle.std.specs.Int.Bits.{bit_xor}
 use Rattle.field.specs.Field.{mul, s_box, un_s_box}
 
@@ -20,6 +20,16 @@ state f = table 4 (λ r. table 8 (f r))
 -- what stands in row r and column c
 abbrev pub at : List (List ℕ) → ℕ → ℕ → ℕ
 at s r c = get_or (get_or s r []) c 0
+
+-- byte by byte, R holds of what stands in xs and what is made of it in ys
+pub record EachByte (R : ℕ → ℕ → Type 0) (n : ℕ) (xs ys : List ℕ) : Type 0 where
+  pub long : length ys ≡ n
+  pub each : (i : ℕ) → i < n → R (get_or xs i 0) (get_or ys i 0)
+
+-- the same of two states
+pub record EachByteOfState (R : ℕ → ℕ → Type 0) (s t : List (List ℕ)) : Type 0 where
+  pub whole : state (at t) ≡ t
+  pub each : (r c : ℕ) → r < 4 → c < 8 → R (at s r c) (at t r c)
 
 -- byte i of a block has row i mod 4 and column i div 4
 unfoldable pub load : List ℕ → List (List ℕ)

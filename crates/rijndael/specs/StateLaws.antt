@@ -1,12 +1,13 @@
 -- Each step of a round has its inverse.
-use Rattle.std.specs.Prelude.{◌≡◌, ℕ, zero, suc, ◌+◌, ◌-◌, ◌*◌, ◌/◌, ◌%◌, ◌<◌, Bool, cond, T, eqb, List, [], ◌∷◌, length, get_or, ◌==◌, refl}
-use Rattle.std.proofs.Common.{sym, ◌∙◌, ap, subst, le_of_suc-le-suc, not-suc-le-zero, arith, eqb→eq, lit<, ⊎_elim}
+use Rattle.std.specs.Prelude.{◌≡◌, ℕ, zero, suc, ◌+◌, ◌-◌, ◌*◌, ◌/◌, ◌%◌, ◌<◌, Bool, true, cond, eqb, List, [], ◌∷◌, length, get_or, ◌==◌, refl}
+use Rattle.std.proofs.Common.{sym, ◌∙◌, ap, subst, le_of_suc-le-suc, not-suc-le-zero, arith, lit<, ⊎_elim}
 use Rattle.std.specs.Int.Bits.{bit_xor, xor_assoc, xor_zero_r, xor_self}
 use Rattle.std.proofs.Math.ListN.{get_or-eq_default}
 use Rattle.block.specs.Bytes.{AreBytes}
 use Rattle.field.specs.Field.{xtime, product, mul, s_box, un_s_box}
 use Rattle.rijndael.specs.State.{table, sum, state, at, load, store, sub, unsub, shift, unshift, places, matrix, mix_by, forth_row, back_row, mix, unmix, add}
 use Rattle.std.proofs.lemmas.Nat.{mod_below, div_below, xor_comm, xor_lt}
+use Rattle.std.proofs.lemmas.Bool.{eqb-true}
 use Rattle.std.proofs.lemmas.Bool.Decides.{leb_tells}
 use Rattle.field.proofs.Every.{every, passes}
 use Rattle.field.proofs.FieldLaws.{swap, by_01, by_02, by_03, by_09, by_0b, by_0d, by_0e, s_box_byte, un_s_box_byte, un_s_box_s_box, s_box_un_s_box, mul_xor, mul_by_zero, mul_byte}
@@ -145,21 +146,21 @@ unit r k b = cond (r == k) b 0
 tests : List ℕ → List ℕ → Bool
 tests p q = every 4 (λ r. every 4 (λ k. every 256 (λ b. eqb (entry p q r k b) (unit r k b))))
 
-tested : (p q : List ℕ) → T (tests p q) → (r k b : ℕ) → r < 4 → k < 4 → b < 256 → entry p q r k b ≡ unit r k b
+tested : (p q : List ℕ) → tests p q ≡ true → (r k b : ℕ) → r < 4 → k < 4 → b < 256 → entry p q r k b ≡ unit r k b
 unfolding tests
 tested p q t r k b h l m =
-    eqb→eq (entry p q r k b) (unit r k b)
+    eqb-true (entry p q r k b) (unit r k b)
     (passes 256 (λ b. eqb (entry p q r k b) (unit r k b))
     (passes 4 (λ k. every 256 (λ b. eqb (entry p q r k b) (unit r k b)))
     (passes 4 (λ r. every 4 (λ k. every 256 (λ b. eqb (entry p q r k b) (unit r k b)))) t r h) k l) b m)
 
-back_forth : T (tests back_row forth_row)
+back_forth : tests back_row forth_row ≡ true
 unfolding tests entry unit mul product xtime
-back_forth = tt
+back_forth = refl
 
-forth_back : T (tests forth_row back_row)
+forth_back : tests forth_row back_row ≡ true
 unfolding tests entry unit mul product xtime
-forth_back = tt
+forth_back = refl
 
 sum_unit : (v : ℕ → ℕ) (r : ℕ) → r < 4 → sum 4 (λ k. unit r k (v k)) ≡ v r
 unfolding unit
@@ -169,7 +170,7 @@ sum_unit v (suc (suc zero)) h = xor_zero_r (v 2)
 sum_unit v (suc (suc (suc zero))) h = xor_zero_r (v 3)
 sum_unit v (suc (suc (suc (suc r)))) h = absurd (omega arith)
 
-column : (p q : List ℕ) → T (tests p q) → (v : ℕ → ℕ) → ((k : ℕ) → k < 4 → v k < 256) → (r : ℕ) → r < 4
+column : (p q : List ℕ) → tests p q ≡ true → (v : ℕ → ℕ) → ((k : ℕ) → k < 4 → v k < 256) → (r : ℕ) → r < 4
     → sum 4 (λ j. mul (matrix p r j) (sum 4 (λ k. mul (matrix q j k) (v k)))) ≡ v r
 unfolding entry
 column p q t v b r h =
@@ -185,7 +186,7 @@ mix_state p s h =
     of_bytes (λ r c. sum 4 (λ j. mul (matrix p r j) (at s j c)))
     (λ r c k l. sum_byte 4 (λ j. mul (matrix p r j) (at s j c)) (λ j m. mul_byte (matrix p r j) (at s j c) (h.bytes j c m l)))
 
-mix_by_undone : (p q : List ℕ) → T (tests p q) → (s : List (List ℕ)) → IsState s → mix_by p (mix_by q s) ≡ s
+mix_by_undone : (p q : List ℕ) → tests p q ≡ true → (s : List (List ℕ)) → IsState s → mix_by p (mix_by q s) ≡ s
 unfolding mix_by
 mix_by_undone p q t s h =
     state_same (λ r c. sum 4 (λ j. mul (matrix p r j) (sum 4 (λ k. mul (matrix q j k) (at s k c))))) (at s)

@@ -1,8 +1,9 @@
-ghost use Rattle.std.specs.Prelude.{◌≡◌, ◌<◌, ◌≤◌, [], length, slice_index_or};
-ghost use Rattle.rijndael.specs.Schedule.{Doubling, constant, xor_word, rot_word, sub_word, change as change_of, next as next_of, schedule as schedule_of, round_key, round_keys};
+ghost use Rattle.std.specs.Prelude.{◌≡◌, ◌/◌, ◌%◌, ◌<◌, ◌≤◌, [], length, slice_index_or};
+ghost use Rattle.rijndael.specs.Schedule.{Doubling, constant, rot_word, sub_word, change as change_of, next as next_of, schedule as schedule_of, round_key, round_keys};
 
-use super::state::{Keys, Row};
+use super::state::{Keys, Row, each_byte, left, xor};
 use field::substitute;
+use std::array;
 
 type Word = [u8; 4];
 
@@ -12,47 +13,29 @@ type Words = [Word; 120];
 const ROUND_CONSTANTS: [u8; 14] = *b"\x01\x02\x04\x08\x10\x20\x40\x80\x1b\x36\x6c\xd8\xab\x4d";
 
 // The first round constant is 01, and each next one is x times the last.
-pub fn round_constants_double() -> u8
+pub fn round_constants_double()
     ensures { Doubling ROUND_CONSTANTS }
-{
-    0
-}
-
-fn round_constants() -> [u8; 14]
-    ensures { Doubling result }
-{
-    ROUND_CONSTANTS
-}
+{}
 
 // Round constant i, counted from 1.
 fn round_constant(i: usize) -> u8
     requires { (1 ≤ i) × (i ≤ 14) }
     ensures { result ≡ constant i }
 {
-    round_constants()[i - 1]
+    ROUND_CONSTANTS[i - 1]
 }
 
-fn xor_word(v: Word, w: Word) -> Word
-    ensures { result ≡ xor_word v w }
-{
-    [v[0] ^ w[0], v[1] ^ w[1], v[2] ^ w[2], v[3] ^ w[3]]
-}
-
+#[tactic(auto, unfolding(crate::specs::Schedule::rot_word))]
 fn rot_word(w: Word) -> Word
     ensures { result ≡ rot_word w }
 {
-    [w[1], w[2], w[3], w[0]]
+    left(w, 1)
 }
 
 fn sub_word(w: Word) -> Word
     ensures { result ≡ sub_word w }
 {
-    [
-        substitute(w[0]),
-        substitute(w[1]),
-        substitute(w[2]),
-        substitute(w[3]),
-    ]
+    each_byte(w, |b| substitute(b))
 }
 
 // What word i adds to word i - 8, where v is word i - 1.
@@ -61,30 +44,30 @@ fn change(i: usize, v: Word) -> Word
     ensures { result ≡ change_of i v }
 {
     match i % 8 {
-        0 => xor_word(sub_word(rot_word(v)), [round_constant(i / 8), 0, 0, 0]),
+        0 => xor(sub_word(rot_word(v)), [round_constant(i / 8), 0, 0, 0]),
         4 => sub_word(v),
         _ => v,
     }
 }
 
 // Word i of a key, from the words before it.
-fn next(key: &[u8], i: usize, words: &Words) -> Word
-    requires { (length key.now ≡ 32) × (i < 120) }
+fn next(key: &[u8; 32], i: usize, words: &Words) -> Word
+    requires { i < 120 }
     ensures { result ≡ next_of key.now i words.now }
 {
     if i < 8 {
-        [key[4 * i], key[4 * i + 1], key[4 * i + 2], key[4 * i + 3]]
+        array::from_fn(|j| key[4 * i + j])
     } else {
-        xor_word(words[i - 8], change(i, words[i - 1]))
+        xor(words[i - 8], change(i, words[i - 1]))
     }
 }
 
-// The words of a key of 32 bytes.
-fn schedule(key: &[u8]) -> Words
-    requires { length key.now ≡ 32 }
+// The words of a key.
+fn schedule(key: &[u8; 32]) -> Words
     ensures { result ≡ schedule_of key.now }
 {
     let mut words = [[0; 4]; 120];
+    // The index stays: a word is made from words before it, and what fills an array shows none of them.
     for i in 0..120 {
         words[i] = next(key, i, &words);
     }
@@ -96,27 +79,18 @@ fn key_row(words: &Words, n: usize, r: usize) -> Row
     requires { (n < 15) × (r < 4) }
     ensures { result ≡ slice_index_or (round_key words.now n) r [] }
 {
-    [
-        words[8 * n][r],
-        words[8 * n + 1][r],
-        words[8 * n + 2][r],
-        words[8 * n + 3][r],
-        words[8 * n + 4][r],
-        words[8 * n + 5][r],
-        words[8 * n + 6][r],
-        words[8 * n + 7][r],
-    ]
+    array::from_fn(|c| words[8 * n + c][r])
 }
 
-// The round keys of a key of 32 bytes.
-pub(super) fn round_keys(key: &[u8]) -> Keys
-    requires { length key.now ≡ 32 }
+// The rows of a key's round keys.
+pub(super) fn round_keys(key: &[u8; 32]) -> Keys
     ensures { result ≡ round_keys key.now }
 {
     let words = schedule(key);
-    let mut keys = [[0; 8]; 60];
-    for i in 0..60 {
-        keys[i] = key_row(&words, i / 4, i % 4);
-    }
-    keys
+    array::from_fn(
+        |i|
+            requires { i < 60 }
+            ensures { result ≡ slice_index_or (round_key words (i / 4)) (i % 4) [] }
+        { key_row(&words, i / 4, i % 4) },
+    )
 }

@@ -1,26 +1,63 @@
-ghost use Rattle.std.specs.Prelude.{◌≡◌, ◌+◌, ◌%◌, ◌≤◌, [], ◌∷◌, bit_xor, slice_index, slice_index_or};
-ghost use Rattle.field.specs.Field.{xtime, s_box, un_s_box};
-ghost use Rattle.rijndael.specs.State.{table, sum, at, state as state_of, load as loaded, store as stored, sub as subbed, unsub as unsubbed, shift as shifted, unshift as unshifted, mix as mixed, unmix as unmixed, add as added};
+ghost use Rattle.std.specs.Prelude.{◌≡◌, ◌+◌, ◌*◌, ◌%◌, ◌^◌, ◌<◌, ◌≤◌, [], ◌∷◌, bit_xor, slice_index, slice_index_or};
+ghost use Rattle.field.specs.Field.{xtime};
+ghost use Rattle.rijndael.specs.State.{table, sum, at, state as state_of, load as loaded, store as stored, sub as subbed, unsub as unsubbed, shift as shifted, unshift as unshifted, mix as mixed, unmix as unmixed, add as added, EachByte, EachByteOfState};
 
 use field::{double, restore, substitute};
+use std::array;
 
 pub type Row = [u8; 8];
 
 // Four rows of eight bytes.
 pub type State = [Row; 4];
 
-// The rows of the fifteen round keys, each of which is a state.
+// The rows of the fifteen round keys.
+// `[State; 15]` was tried: a struct that holds arrays of arrays of arrays gets no proof.
 pub type Keys = [Row; 60];
 
+// What f makes of each byte. `bytes.map(f)` was tried: forth then takes 0.76 µs a block, not 0.55.
+pub fn each_byte<const N: usize, F: Fn(u8) -> u8>(bytes: [u8; N], f: F) -> [u8; N]
+    requires { F.IsAlwaysCallable f }
+    ensures { EachByte (F.post f) N bytes.entry result }
+{
+    array::from_fn(
+        |i|
+            requires { (i < N) × F.IsAlwaysCallable f }
+            ensures { F.post f (slice_index bytes i) result }
+        { f(bytes[i]) },
+    )
+}
+
+// The exclusive or, byte by byte. One function with `block::xor_blocks` would be no plainer: it would tell its result
+// by ⊕, and each step here would have to turn that into a table.
+pub fn xor<const N: usize>(a: [u8; N], b: [u8; N]) -> [u8; N]
+    ensures { result ≡ table N (λ i. bit_xor (slice_index a.entry i) (slice_index b.entry i)) }
+{
+    array::from_fn(
+        |i|
+            requires { i < N }
+            ensures { result ≡ bit_xor (slice_index a i) (slice_index b i) }
+        { a[i] ^ b[i] },
+    )
+}
+
+// Row r of a block's state.
+fn load_row(x: &[u8; 32], r: usize) -> Row
+    requires { r < 4 }
+    ensures { result ≡ table 8 (λ c. slice_index x.now (4 * c + r)) }
+{
+    array::from_fn(|c| x[4 * c + r])
+}
+
 // The state of a block, column by column.
+#[tactic(auto, unfolding(crate::specs::State::load))]
 pub fn load(x: [u8; 32]) -> State
     ensures { result ≡ loaded x }
 {
     [
-        [x[0], x[4], x[8], x[12], x[16], x[20], x[24], x[28]],
-        [x[1], x[5], x[9], x[13], x[17], x[21], x[25], x[29]],
-        [x[2], x[6], x[10], x[14], x[18], x[22], x[26], x[30]],
-        [x[3], x[7], x[11], x[15], x[19], x[23], x[27], x[31]],
+        load_row(&x, 0),
+        load_row(&x, 1),
+        load_row(&x, 2),
+        load_row(&x, 3),
     ]
 }
 
@@ -28,147 +65,84 @@ pub fn load(x: [u8; 32]) -> State
 pub fn store(s: State) -> [u8; 32]
     ensures { result ≡ stored s }
 {
-    let [a, b, c, d] = s;
-    [
-        a[0], b[0], c[0], d[0], a[1], b[1], c[1], d[1], a[2], b[2], c[2], d[2], a[3], b[3], c[3],
-        d[3], a[4], b[4], c[4], d[4], a[5], b[5], c[5], d[5], a[6], b[6], c[6], d[6], a[7], b[7],
-        c[7], d[7],
-    ]
+    array::from_fn(|i| s[i % 4][i / 4])
 }
 
-fn sub_row(row: Row) -> Row
-    ensures { result ≡ table 8 (λ c. s_box (slice_index row c)) }
+// What f makes of each byte of a state.
+fn each_byte_of_state<F: Fn(u8) -> u8 + Copy>(s: State, f: F) -> State
+    requires { F.IsAlwaysCallable f }
+    ensures { EachByteOfState (F.post f) s result }
 {
     [
-        substitute(row[0]),
-        substitute(row[1]),
-        substitute(row[2]),
-        substitute(row[3]),
-        substitute(row[4]),
-        substitute(row[5]),
-        substitute(row[6]),
-        substitute(row[7]),
+        each_byte(s[0], f),
+        each_byte(s[1], f),
+        each_byte(s[2], f),
+        each_byte(s[3], f),
     ]
 }
 
 pub fn sub(s: State) -> State
     ensures { result ≡ subbed s }
 {
-    [sub_row(s[0]), sub_row(s[1]), sub_row(s[2]), sub_row(s[3])]
-}
-
-fn unsub_row(row: Row) -> Row
-    ensures { result ≡ table 8 (λ c. un_s_box (slice_index row c)) }
-{
-    [
-        restore(row[0]),
-        restore(row[1]),
-        restore(row[2]),
-        restore(row[3]),
-        restore(row[4]),
-        restore(row[5]),
-        restore(row[6]),
-        restore(row[7]),
-    ]
+    each_byte_of_state(s, |b| substitute(b))
 }
 
 pub fn unsub(s: State) -> State
     ensures { result ≡ unsubbed s }
 {
-    [
-        unsub_row(s[0]),
-        unsub_row(s[1]),
-        unsub_row(s[2]),
-        unsub_row(s[3]),
-    ]
+    each_byte_of_state(s, |b| restore(b))
 }
 
-// The row moved left by n places.
-fn left(row: Row, n: usize) -> Row
-    requires { n ≤ 8 }
-    ensures { result ≡ table 8 (λ c. slice_index row ((c + n) % 8)) }
+// The bytes moved left by n places. `rotate_left` was tried: forth then takes 2.1 µs a block, not 0.55.
+pub fn left<const N: usize>(bytes: [u8; N], n: usize) -> [u8; N]
+    requires { N + n < 2 ^ 64 }
+    ensures { result ≡ table N (λ i. slice_index bytes.entry ((i + n) % N)) }
 {
-    [
-        row[n % 8],
-        row[(1 + n) % 8],
-        row[(2 + n) % 8],
-        row[(3 + n) % 8],
-        row[(4 + n) % 8],
-        row[(5 + n) % 8],
-        row[(6 + n) % 8],
-        row[(7 + n) % 8],
-    ]
+    array::from_fn(
+        |i|
+            requires { (i < N) × (N + n < 2 ^ 64) }
+            ensures { result ≡ slice_index bytes ((i + n) % N) }
+        { bytes[(i + n) % N] },
+    )
 }
 
+#[tactic(auto, unfolding(crate::specs::State::shift))]
 pub fn shift(s: State) -> State
     ensures { result ≡ shifted s }
 {
     [left(s[0], 0), left(s[1], 1), left(s[2], 3), left(s[3], 4)]
 }
 
+#[tactic(auto, unfolding(crate::specs::State::unshift))]
 pub fn unshift(s: State) -> State
     ensures { result ≡ unshifted s }
 {
     [left(s[0], 8), left(s[1], 7), left(s[2], 5), left(s[3], 4)]
 }
 
-fn xor_row(a: Row, b: Row) -> Row
-    ensures { result ≡ table 8 (λ c. bit_xor (slice_index a c) (slice_index b c)) }
-{
-    [
-        a[0] ^ b[0],
-        a[1] ^ b[1],
-        a[2] ^ b[2],
-        a[3] ^ b[3],
-        a[4] ^ b[4],
-        a[5] ^ b[5],
-        a[6] ^ b[6],
-        a[7] ^ b[7],
-    ]
-}
-
 // Adds the round key k.
+#[tactic(auto, unfolding(crate::specs::State::add))]
 pub fn add(k: State, s: State) -> State
     ensures { result ≡ added k s }
 {
     [
-        xor_row(s[0], k[0]),
-        xor_row(s[1], k[1]),
-        xor_row(s[2], k[2]),
-        xor_row(s[3], k[3]),
-    ]
-}
-
-fn double_row(a: Row) -> Row
-    ensures { result ≡ table 8 (λ c. xtime (slice_index a c)) }
-{
-    [
-        double(a[0]),
-        double(a[1]),
-        double(a[2]),
-        double(a[3]),
-        double(a[4]),
-        double(a[5]),
-        double(a[6]),
-        double(a[7]),
+        xor(s[0], k[0]),
+        xor(s[1], k[1]),
+        xor(s[2], k[2]),
+        xor(s[3], k[3]),
     ]
 }
 
 fn double_state(s: State) -> State
     ensures { result ≡ state_of (λ r c. xtime (at s r c)) }
 {
-    [
-        double_row(s[0]),
-        double_row(s[1]),
-        double_row(s[2]),
-        double_row(s[3]),
-    ]
+    each_byte_of_state(s, |b| double(b))
 }
 
 fn sum_rows(a: Row, b: Row, c: Row, d: Row) -> Row
     ensures { result ≡ table 8 (λ k. sum 4 (λ j. at (a ∷ b ∷ c ∷ d ∷ []) j k)) }
 {
-    xor_row(xor_row(a, b), xor_row(c, d))
+    xor(xor(a, b), xor(c, d))
 }
 
 // The multiples a, b, c and d of a state by the first row of a matrix, added up along the matrix:

@@ -1,140 +1,127 @@
 use super::digits::spelled_bytes;
 use super::orders::Source;
 use std::alloc::{AllocError, Global};
-use std::fmt;
+use thiserror::Error;
 
 // What was expected of a line.
-#[derive(Clone, Copy, Debug)]
+#[derive(Clone, Copy, Debug, Error)]
 pub enum Expected {
     // a word that begins a line
+    #[error("key, layers, op, opc, constants, sizes, network, card, challenge, receive, confirm, resync, lapse or trace")]
     Command,
     // only fields that the command has, each once
+    #[error("fields of this command as name=value, each once")]
     Fields,
     // a field of this name
+    #[error("the field {0}=")]
     Field(&'static str),
     // hexadecimal digits in the field of this name
+    #[error("hexadecimal digits, two to a byte, in {0}=")]
     Bytes(&'static str),
     // a number in the field of this name
+    #[error("a number in {0}=")]
     Number(&'static str),
-    Memory,
+    #[error("more memory")]
+    Memory(#[from(alloc)] AllocError),
 }
 
-impl fmt::Display for Expected {
-    fn fmt<W: fmt::Write>(&self, f: &mut fmt::Formatter<W>) -> fmt::Result {
-        match self {
-            Expected::Command => f.write_str(
-                "key, layers, op, opc, constants, sizes, network, card, challenge, receive, confirm, resync, lapse or trace",
-            ),
-            Expected::Fields => f.write_str("fields of this command as name=value, each once"),
-            Expected::Field(name) => write!(f, "the field {name}="),
-            Expected::Bytes(name) => write!(f, "hexadecimal digits, two to a byte, in {name}="),
-            Expected::Number(name) => write!(f, "a number in {name}="),
-            Expected::Memory => f.write_str("more memory"),
-        }
-    }
-}
-
-impl From<AllocError> for Expected {
-    fn from(_e: AllocError) -> Expected {
-        Expected::Memory
-    }
-}
-
-// The value of a field among the words of a line, if it stands there.
-pub fn value_of<'a>(words: &'a str, name: &str) -> Option<&'a str> {
-    for word in words.split(' ') {
-        if let Some((label, value)) = word.split_once('=') {
-            if label == name {
-                return Some(value);
-            }
-        }
-    }
-    None
-}
-
-// How often a field stands among the words of a line.
-fn times(words: &str, name: &str) -> usize {
-    let mut n = 0usize;
-    for word in words.split(' ') {
-        if let Some((label, _value)) = word.split_once('=') {
-            if label == name {
-                n = n.saturating_add(1);
-            }
-        }
-    }
-    n
+// The value of a word, if it is a field of this name.
+fn value_in<'a>(word: &'a str, name: &str) -> Option<&'a str> {
+    word.strip_prefix(name)?.strip_prefix('=')
 }
 
 // Whether a word is a field of one of these names.
 fn is_known(word: &str, names: &[&'static str]) -> bool {
-    let Some((label, _value)) = word.split_once('=') else {
-        return false;
-    };
-    for name in names {
-        if label == *name {
-            return true;
+    names.iter().any(|name| value_in(word, *name).is_some())
+}
+
+// The number that a value spells in the field of this name.
+fn number(value: &str, name: &'static str) -> Result<usize, Expected> {
+    value.parse::<usize>().map_err(|_| Expected::Number(name))
+}
+
+// The words of a line behind the first, its fields, and where the bytes that they spell go.
+#[derive(Clone, Copy)]
+pub struct Fields<'a> {
+    pub heap: Global,
+    pub words: &'a str,
+}
+
+impl<'a> Fields<'a> {
+    // Sees that the words are fields of these names, none twice.
+    pub fn only(self, names: &[&'static str]) -> Result<(), Expected> {
+        let known = self
+            .words
+            .split(' ')
+            .filter(|word| !word.is_empty())
+            .all(|word| is_known(word, names));
+        let once = names.iter().all(|name| self.times(*name) <= 1);
+        if known && once {
+            Ok(())
+        } else {
+            Err(Expected::Fields)
         }
     }
-    false
-}
 
-// Sees that the words of a line are fields of these names, none twice.
-pub fn only(words: &str, names: &[&'static str]) -> Result<(), Expected> {
-    for word in words.split(' ') {
-        if !word.is_empty() && !is_known(word, names) {
-            return Err(Expected::Fields);
+    // How often a field of this name stands among the words.
+    fn times(self, name: &str) -> usize {
+        self.words
+            .split(' ')
+            .filter(|word| value_in(*word, name).is_some())
+            .count()
+    }
+
+    // The value of a field, if it stands among the words.
+    pub fn optional(self, name: &str) -> Option<&'a str> {
+        self.words.split(' ').find_map(|word| value_in(word, name))
+    }
+
+    // The value of a field that a line must have.
+    fn required(self, name: &'static str) -> Result<&'a str, Expected> {
+        self.optional(name).ok_or(Expected::Field(name))
+    }
+
+    // The bytes of a field.
+    pub fn bytes(self, name: &'static str) -> Result<Vec<u8>, Expected> {
+        let value = self.required(name)?;
+        spelled_bytes(self.heap, value.as_bytes())?.ok_or(Expected::Bytes(name))
+    }
+
+    // The bytes of the only field that a line may have.
+    pub fn only_bytes(self, name: &'static str) -> Result<Vec<u8>, Expected> {
+        self.only(&[name])?;
+        self.bytes(name)
+    }
+
+    // The bytes of a field, or none where the field is absent.
+    pub fn bytes_or_none(self, name: &'static str) -> Result<Vec<u8>, Expected> {
+        match self.optional(name) {
+            Some(_) => self.bytes(name),
+            None => Ok(Vec::new(self.heap)),
         }
     }
-    for name in names {
-        if times(words, *name) > 1 {
-            return Err(Expected::Fields);
+
+    // The bytes of a field, or the word last.
+    pub fn source(self, name: &'static str) -> Result<Source, Expected> {
+        match self.optional(name) {
+            Some("last") => Ok(Source::Last),
+            _ => self.bytes(name).map(Source::Given),
         }
     }
-    Ok(())
-}
 
-// The bytes of a field.
-pub fn bytes(heap: Global, words: &str, name: &'static str) -> Result<Vec<u8>, Expected> {
-    let Some(value) = value_of(words, name) else {
-        return Err(Expected::Field(name));
-    };
-    match spelled_bytes(heap, value.as_bytes())? {
-        Some(found) => Ok(found),
-        None => Err(Expected::Bytes(name)),
+    // The number of a field.
+    pub fn count(self, name: &'static str) -> Result<usize, Expected> {
+        number(self.required(name)?, name)
     }
-}
 
-// The bytes of a field, or the word last.
-pub fn source(heap: Global, words: &str, name: &'static str) -> Result<Source, Expected> {
-    if value_of(words, name) == Some("last") {
-        return Ok(Source::Last);
+    // The number of a field, or another where the field is absent.
+    pub fn count_or(self, name: &'static str, other: usize) -> Result<usize, Expected> {
+        self.optional(name)
+            .map_or(Ok(other), |value| number(value, name))
     }
-    Ok(Source::Given(bytes(heap, words, name)?))
-}
 
-// The number of a field.
-pub fn count(words: &str, name: &'static str) -> Result<usize, Expected> {
-    let Some(value) = value_of(words, name) else {
-        return Err(Expected::Field(name));
-    };
-    match value.parse::<usize>() {
-        Ok(n) => Ok(n),
-        Err(_) => Err(Expected::Number(name)),
-    }
-}
-
-// The number of a field, or another where the field is absent.
-pub fn count_or(words: &str, name: &'static str, other: usize) -> Result<usize, Expected> {
-    match value_of(words, name) {
-        Some(_) => count(words, name),
-        None => Ok(other),
-    }
-}
-
-// The ticket of a line.
-pub fn ticket(words: &str) -> Result<u32, Expected> {
-    match u32::try_from(count(words, "ticket")?) {
-        Ok(n) => Ok(n),
-        Err(_) => Err(Expected::Number("ticket")),
+    // The ticket of a line.
+    pub fn ticket(self) -> Result<u32, Expected> {
+        u32::try_from(self.count("ticket")?).map_err(|_| Expected::Number("ticket"))
     }
 }

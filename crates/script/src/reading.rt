@@ -1,9 +1,11 @@
 ghost use Rattle.std.specs.Prelude.{◌≤◌, IfErr};
 
-use super::fields::{Expected, bytes, count, count_or, only, source, ticket, value_of};
-use super::orders::{Mask, Order, Setting, SizeSet, Step, Where};
+use super::fields::{Expected, Fields};
+use super::orders::{Layers, Order, Setting, Source};
+use aka::{ResyncMask, Sizes};
+use driver::{End, Step};
 use std::alloc::{AllocError, Global};
-use std::fmt;
+use thiserror::Error;
 
 // Lengths of buffers where a step names none.
 const ROOM: usize = 256;
@@ -13,156 +15,150 @@ const AUTS_ROOM: usize = 64;
 const SCRATCH: usize = 96;
 
 // A line that cannot be read: its number from 1, and what was expected of it.
-#[derive(Clone, Copy, Debug)]
+#[derive(Clone, Copy, Debug, Error)]
+#[error("line {line}: expected {expected}")]
 pub struct Fault {
     pub line: usize,
     pub expected: Expected,
 }
 
-impl fmt::Display for Fault {
-    fn fmt<W: fmt::Write>(&self, f: &mut fmt::Formatter<W>) -> fmt::Result {
-        let line = self.line;
-        let expected = self.expected;
-        write!(f, "line {line}: expected {expected}")
-    }
-}
-
-// The name of the algorithm: the field name= as it stands, or MILENAGE2.0.
-fn name(heap: Global, words: &str) -> Result<Vec<u8>, Expected> {
-    let text = value_of(words, "name").unwrap_or("MILENAGE2.0");
-    Ok(text.as_bytes().to_vec(heap)?)
-}
-
 // What masks the number in an AUTS: mask=f5* or mask=f5**.
-fn mask(words: &str) -> Result<Mask, Expected> {
-    match value_of(words, "mask") {
-        Some("f5*") => Ok(Mask::F5Star),
-        Some("f5**") => Ok(Mask::F5StarStar),
+fn mask(fields: Fields<'_>) -> Result<ResyncMask, Expected> {
+    match fields.optional("mask") {
+        Some("f5*") => Ok(ResyncMask::F5Star),
+        Some("f5**") => Ok(ResyncMask::F5StarStar),
         _ => Err(Expected::Field("mask")),
     }
 }
 
-fn sizes(words: &str) -> Result<Setting, Expected> {
-    only(
-        words,
-        &["rand", "sqn", "ak", "mac", "res", "ck", "ik", "mask"],
-    )?;
-    let sqn = count(words, "sqn")?;
-    Ok(Setting::Sizes(SizeSet {
-        rand: count(words, "rand")?,
+fn sizes(fields: Fields<'_>) -> Result<Sizes, Expected> {
+    fields.only(&["rand", "sqn", "ak", "mac", "res", "ck", "ik", "mask"])?;
+    let sqn = fields.count("sqn")?;
+    Ok(Sizes {
+        rand: fields.count("rand")?,
         sqn,
-        ak: count_or(words, "ak", sqn)?,
-        mac: count(words, "mac")?,
-        res: count(words, "res")?,
-        ck: count(words, "ck")?,
-        ik: count(words, "ik")?,
-        mask: mask(words)?,
-    }))
+        ak: fields.count_or("ak", sqn)?,
+        mac: fields.count("mac")?,
+        res: fields.count("res")?,
+        ck: fields.count("ck")?,
+        ik: fields.count("ik")?,
+        resync: mask(fields)?,
+    })
 }
 
-fn layers(heap: Global, words: &str) -> Result<Setting, Expected> {
-    only(words, &["a", "b", "first", "second"])?;
-    let a = bytes(heap, words, "a")?;
-    let b = bytes(heap, words, "b")?;
-    let first = bytes(heap, words, "first")?;
-    let second = bytes(heap, words, "second")?;
-    Ok(Setting::Layers(a, b, first, second))
+fn layers(fields: Fields<'_>) -> Result<Layers, Expected> {
+    fields.only(&["a", "b", "first", "second"])?;
+    Ok(Layers {
+        mask_a: fields.bytes("a")?,
+        mask_b: fields.bytes("b")?,
+        first_key: fields.bytes("first")?,
+        second_key: fields.bytes("second")?,
+    })
+}
+
+// OP, and the name of the algorithm: the field name= as it stands, or MILENAGE2.0.
+fn op(fields: Fields<'_>) -> Result<Setting, Expected> {
+    fields.only(&["op", "name"])?;
+    let name = fields.optional("name").unwrap_or("MILENAGE2.0");
+    Ok(Setting::Op {
+        op: fields.bytes("op")?,
+        name: String::from_str(fields.heap, name)?,
+    })
 }
 
 // A line that sets up the pair, if its first word is such.
-fn setting(heap: Global, word: &str, words: &str) -> Result<Option<Setting>, Expected> {
+fn setting(word: &str, fields: Fields<'_>) -> Result<Option<Setting>, Expected> {
     let found = match word {
-        "layers" => layers(heap, words)?,
-        "sizes" => sizes(words)?,
-        "op" => {
-            only(words, &["op", "name"])?;
-            Setting::Op(bytes(heap, words, "op")?, name(heap, words)?)
-        }
-        "key" => {
-            only(words, &["key"])?;
-            Setting::Key(bytes(heap, words, "key")?)
-        }
-        "opc" => {
-            only(words, &["opc"])?;
-            Setting::Opc(bytes(heap, words, "opc")?)
-        }
-        "constants" => {
-            only(words, &["constants"])?;
-            Setting::Constants(bytes(heap, words, "constants")?)
-        }
-        "network" => {
-            only(words, &["number"])?;
-            Setting::NetworkNumber(bytes(heap, words, "number")?)
-        }
-        "card" => {
-            only(words, &["number"])?;
-            Setting::CardNumber(bytes(heap, words, "number")?)
-        }
+        "layers" => Setting::Layers(layers(fields)?),
+        "sizes" => Setting::Sizes(sizes(fields)?),
+        "op" => op(fields)?,
+        "key" => Setting::Key(fields.only_bytes("key")?),
+        "opc" => Setting::Opc(fields.only_bytes("opc")?),
+        "constants" => Setting::Constants(fields.only_bytes("constants")?),
+        "network" => Setting::NetworkNumber(fields.only_bytes("number")?),
+        "card" => Setting::CardNumber(fields.only_bytes("number")?),
         _ => return Ok(None),
     };
     Ok(Some(found))
 }
 
-fn challenge(heap: Global, words: &str) -> Result<Step, Expected> {
-    only(words, &["rand", "amf", "room", "scratch"])?;
-    let rand = bytes(heap, words, "rand")?;
-    let amf = bytes(heap, words, "amf")?;
-    let room = count_or(words, "room", ROOM)?;
-    let scratch = count_or(words, "scratch", SCRATCH)?;
-    Ok(Step::Challenge(rand, amf, room, scratch))
+fn challenge(fields: Fields<'_>) -> Result<Step<Source>, Expected> {
+    fields.only(&["rand", "amf", "room", "scratch"])?;
+    Ok(Step::Challenge {
+        rand: fields.bytes("rand")?,
+        amf: fields.bytes("amf")?,
+        room: fields.count_or("room", ROOM)?,
+        scratch: fields.count_or("scratch", SCRATCH)?,
+    })
 }
 
-fn receive(heap: Global, words: &str) -> Result<Step, Expected> {
-    only(words, &["rand", "autn", "room", "auts", "scratch"])?;
-    let rand = source(heap, words, "rand")?;
-    let autn = source(heap, words, "autn")?;
-    let room = count_or(words, "room", ROOM)?;
-    let auts = count_or(words, "auts", AUTS_ROOM)?;
-    let scratch = count_or(words, "scratch", SCRATCH)?;
-    Ok(Step::Receive(rand, autn, room, auts, scratch))
+fn receive(fields: Fields<'_>) -> Result<Step<Source>, Expected> {
+    fields.only(&["rand", "autn", "room", "auts", "scratch"])?;
+    Ok(Step::Receive {
+        rand: fields.source("rand")?,
+        autn: fields.source("autn")?,
+        room: fields.count_or("room", ROOM)?,
+        auts_room: fields.count_or("auts", AUTS_ROOM)?,
+        scratch: fields.count_or("scratch", SCRATCH)?,
+    })
 }
 
-fn trace(heap: Global, words: &str) -> Result<Step, Expected> {
-    only(
-        words,
-        &["end", "index", "rand", "size", "carried", "room", "scratch"],
-    )?;
-    let end = match value_of(words, "end") {
-        Some("network") => Where::Network,
-        Some("card") => Where::Card,
-        _ => return Err(Expected::Field("end")),
-    };
-    let index = count(words, "index")?;
-    let rand = source(heap, words, "rand")?;
-    let size = count(words, "size")?;
-    let carried = match value_of(words, "carried") {
-        Some(_) => bytes(heap, words, "carried")?,
-        None => Vec::new(heap),
-    };
-    let room = count_or(words, "room", ROOM)?;
-    let scratch = count_or(words, "scratch", SCRATCH)?;
-    Ok(Step::Trace(end, index, rand, size, carried, room, scratch))
+// At which end a trace is made: end=network or end=card.
+fn end(fields: Fields<'_>) -> Result<End, Expected> {
+    match fields.optional("end") {
+        Some("network") => Ok(End::Network),
+        Some("card") => Ok(End::Card),
+        _ => Err(Expected::Field("end")),
+    }
+}
+
+fn trace(fields: Fields<'_>) -> Result<Step<Source>, Expected> {
+    fields.only(&["end", "index", "rand", "size", "carried", "room", "scratch"])?;
+    Ok(Step::Trace {
+        end: end(fields)?,
+        index: fields.count("index")?,
+        rand: fields.source("rand")?,
+        size: fields.count("size")?,
+        carried: fields.bytes_or_none("carried")?,
+        room: fields.count_or("room", ROOM)?,
+        scratch: fields.count_or("scratch", SCRATCH)?,
+    })
+}
+
+fn confirm(fields: Fields<'_>) -> Result<Step<Source>, Expected> {
+    fields.only(&["ticket", "res"])?;
+    Ok(Step::Confirm {
+        serial: fields.ticket()?,
+        res: fields.source("res")?,
+    })
+}
+
+fn resync(fields: Fields<'_>) -> Result<Step<Source>, Expected> {
+    fields.only(&["ticket", "auts", "scratch"])?;
+    let scratch = fields.count_or("scratch", SCRATCH)?;
+    Ok(Step::Resync {
+        serial: fields.ticket()?,
+        auts: fields.source("auts")?,
+        scratch,
+    })
+}
+
+fn lapse(fields: Fields<'_>) -> Result<Step<Source>, Expected> {
+    fields.only(&["ticket"])?;
+    Ok(Step::Lapse {
+        serial: fields.ticket()?,
+    })
 }
 
 // A line that is a step, if its first word is such.
-fn step(heap: Global, word: &str, words: &str) -> Result<Option<Step>, Expected> {
+fn step(word: &str, fields: Fields<'_>) -> Result<Option<Step<Source>>, Expected> {
     let found = match word {
-        "challenge" => challenge(heap, words)?,
-        "receive" => receive(heap, words)?,
-        "trace" => trace(heap, words)?,
-        "confirm" => {
-            only(words, &["ticket", "res"])?;
-            Step::Confirm(ticket(words)?, source(heap, words, "res")?)
-        }
-        "resync" => {
-            only(words, &["ticket", "auts", "scratch"])?;
-            let scratch = count_or(words, "scratch", SCRATCH)?;
-            Step::Resync(ticket(words)?, source(heap, words, "auts")?, scratch)
-        }
-        "lapse" => {
-            only(words, &["ticket"])?;
-            Step::Lapse(ticket(words)?)
-        }
+        "challenge" => challenge(fields)?,
+        "receive" => receive(fields)?,
+        "trace" => trace(fields)?,
+        "confirm" => confirm(fields)?,
+        "resync" => resync(fields)?,
+        "lapse" => lapse(fields)?,
         _ => return Ok(None),
     };
     Ok(Some(found))
@@ -174,13 +170,12 @@ fn order(heap: Global, line: &str) -> Result<Option<Order>, Expected> {
         return Ok(None);
     }
     let (word, words) = line.split_once(' ').unwrap_or((line, ""));
-    if let Some(found) = setting(heap, word, words)? {
+    let fields = Fields { heap, words };
+    if let Some(found) = setting(word, fields)? {
         return Ok(Some(Order::Set(found)));
     }
-    match step(heap, word, words)? {
-        Some(found) => Ok(Some(Order::Do(found))),
-        None => Err(Expected::Command),
-    }
+    let found = step(word, fields)?.ok_or(Expected::Command)?;
+    Ok(Some(Order::Do(found)))
 }
 
 // Reads a script: its orders in the order of their lines, or the first line that cannot be read.
@@ -188,20 +183,13 @@ pub fn parse(heap: Global, text: &str) -> Result<Vec<Order>, Fault>
     ensures { IfErr result (λ fault. 1 ≤ fault.line) }
 {
     let mut orders = Vec::new(heap);
-    let mut line = 0usize;
-    for words in text.lines() {
-        line = line.saturating_add(1);
-        match order(heap, words) {
-            Ok(Some(found)) => {
-                if orders.push(found).is_err() {
-                    return Err(Fault {
-                        line,
-                        expected: Expected::Memory,
-                    });
-                }
-            }
-            Ok(None) => {}
-            Err(expected) => return Err(Fault { line, expected }),
+    for (i, words) in text.lines().enumerate() {
+        let line = i.saturating_add(1);
+        let at = |expected| Fault { line, expected };
+        if let Some(found) = order(heap, words).map_err(at)? {
+            orders
+                .push(found)
+                .map_err(|_| at(Expected::Memory(AllocError)))?;
         }
     }
     Ok(orders)

@@ -1,26 +1,18 @@
 use super::KEY;
-use aka::{CardEnd, NetworkEnd, ResyncMask, Sizes};
-use anyhow::anyhow;
-use block::Refusal;
+use aka::{CardEnd, NetworkEnd, Sizes};
 use milenage::{derive_opc, standard_constants, standard_name};
 use rijndael::Rijndael;
 
 // How many challenges are given before they are received.
-pub const BATCH: u32 = 64;
+pub const BATCH: usize = 64;
 
 const RAND: [u8; 16] = [0x3c; 16];
 
 const AMF: [u8; 2] = [0x80, 0];
 
 const SIZES: Sizes = Sizes {
-    rand: 16,
-    sqn: 6,
-    ak: 6,
-    mac: 8,
     res: 8,
-    ck: 16,
-    ik: 16,
-    resync: ResyncMask::F5Star,
+    ..Sizes::SMALLEST
 };
 
 // RAND, XRES, CK, IK and AUTN at these sizes.
@@ -34,72 +26,43 @@ type Answer = [u8; 40];
 pub struct Pair {
     network: NetworkEnd<Rijndael>,
     card: CardEnd<Rijndael>,
-    vectors: [Vector; 64],
+    vectors: [Vector; BATCH],
     pub answer: Answer,
 }
 
-// A refusal, as the error that ends the program.
-fn refused(e: Refusal) -> anyhow::Error {
-    anyhow!(e.word())
-}
-
 fn kernel() -> anyhow::Result<Rijndael> {
-    match Rijndael::new(&KEY) {
-        Ok(kernel) => Ok(kernel),
-        Err(e) => Err(refused(e)),
-    }
+    Ok(Rijndael::new(&KEY)?)
 }
 
 // Gives a challenge, and gives it up.
 fn challenge(network: &mut NetworkEnd<Rijndael>, vector: &mut Vector) -> anyhow::Result<()> {
-    let mut scratch = [0; 96];
-    match network.challenge(&RAND, &AMF, vector, &mut scratch) {
-        Ok(ticket) => {
-            let _ = network.lapse(ticket);
-            Ok(())
-        }
-        Err(e) => Err(refused(e)),
-    }
+    let ticket = network.challenge(&RAND, &AMF, vector, &mut [0; 96])?;
+    Ok(network.lapse(ticket)?)
 }
 
 // RES, CK and IK, with which the card accepts a challenge.
 fn receive(card: &mut CardEnd<Rijndael>, vector: &Vector) -> anyhow::Result<Answer> {
     let mut answer = [0; 40];
-    let mut auts = [0; 14];
-    let mut scratch = [0; 96];
-    let outcome = card.receive(
+    card.receive(
         &vector[0..16],
         &vector[56..72],
         &mut answer,
-        &mut auts,
-        &mut scratch,
-    );
-    match outcome {
-        Ok(()) => Ok(answer),
-        Err(e) => Err(refused(e)),
-    }
+        &mut [0; 14],
+        &mut [0; 96],
+    )?;
+    Ok(answer)
 }
 
 impl Pair {
     pub fn open() -> anyhow::Result<Pair> {
         let constants = standard_constants();
-        let opc = match derive_opc(&kernel()?, &KEY, standard_name(), &mut [0; 96]) {
-            Ok(opc) => opc,
-            Err(e) => return Err(refused(e)),
-        };
-        let network = match NetworkEnd::open(kernel()?, &opc, &constants, SIZES, &[0; 6]) {
-            Ok(end) => end,
-            Err(e) => return Err(refused(e)),
-        };
-        match CardEnd::open(kernel()?, &opc, &constants, SIZES, &[0; 6]) {
-            Ok(card) => Ok(Pair {
-                network,
-                card,
-                vectors: [[0; 72]; 64],
-                answer: [0; 40],
-            }),
-            Err(e) => Err(refused(e)),
-        }
+        let opc = derive_opc(&kernel()?, &KEY, standard_name(), &mut [0; 96])?;
+        Ok(Pair {
+            network: NetworkEnd::open(kernel()?, &opc, &constants, SIZES, &[0; 6])?,
+            card: CardEnd::open(kernel()?, &opc, &constants, SIZES, &[0; 6])?,
+            vectors: [[0; 72]; BATCH],
+            answer: [0; 40],
+        })
     }
 
     // Gives a batch of challenges.
@@ -120,6 +83,6 @@ impl Pair {
 
     // The vector of the batch's last challenge.
     pub fn last_vector(&self) -> Vector {
-        self.vectors[63]
+        self.vectors[BATCH - 1]
     }
 }

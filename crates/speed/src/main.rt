@@ -5,8 +5,7 @@
 
 mod ends;
 
-use anyhow::anyhow;
-use ends::Pair;
+use ends::{BATCH, Pair};
 use kernel::Kernel;
 use published::Hex;
 use rijndael::Rijndael;
@@ -15,34 +14,27 @@ use std::time::Instant;
 
 pub const KEY: [u8; 32] = [1; 32];
 
-fn forth_chain<K: Kernel>(kernel: &K, times: u32, start: [u8; 32]) -> [u8; 32] {
-    let mut x = start;
-    for _ in 0..times {
-        let y = kernel.encrypt(x);
-        x = y;
-    }
-    x
+// A block after as many steps as wanted.
+fn chain<F: Fn([u8; 32]) -> [u8; 32]>(times: u32, start: [u8; 32], step: F) -> [u8; 32]
+    requires { F.IsAlwaysCallable step }
+{
+    (0..times).fold(start, |x, _| step(x))
 }
 
-fn back_chain<K: Kernel>(kernel: &K, times: u32, start: [u8; 32]) -> [u8; 32] {
-    let mut x = start;
-    for _ in 0..times {
-        let y = kernel.decrypt(x);
-        x = y;
-    }
-    x
+// What a task makes, and the nanoseconds that it takes.
+fn timed<T: Drop, F: FnOnce() -> T>(rt: &HostRuntime, task: F) -> anyhow::Result<(T, u128)>
+    requires { F.IsAlwaysCallable task }
+{
+    let begun = Instant::now(rt)?;
+    let made = task();
+    let time = begun.elapsed(rt)?;
+    Ok((made, time.as_nanos()))
 }
 
 fn time_kernel(rt: &HostRuntime, times: u32) -> anyhow::Result<()> {
-    let Ok(kernel) = Rijndael::new(&KEY) else {
-        return Err(anyhow!("the key was refused"));
-    };
-    let begun = Instant::now(rt)?;
-    let y = forth_chain(&kernel, times, KEY);
-    let forth = begun.elapsed(rt)?.as_nanos();
-    let begun = Instant::now(rt)?;
-    let x = back_chain(&kernel, times, y);
-    let back = begun.elapsed(rt)?.as_nanos();
+    let kernel = Rijndael::new(&KEY)?;
+    let (y, forth) = timed(rt, || chain(times, KEY, |x| kernel.encrypt(x)))?;
+    let (x, back) = timed(rt, || chain(times, y, |x| kernel.decrypt(x)))?;
     println!(rt; "forth {times} times: {}", Hex(&y))?;
     println!(rt; "back {times} times:  {}", Hex(&x))?;
     eprintln!(rt; "forth {forth} ns, back {back} ns, {times} blocks each")?;
@@ -52,35 +44,29 @@ fn time_kernel(rt: &HostRuntime, times: u32) -> anyhow::Result<()> {
 // Times batches of challenges, and the receives of each batch.
 fn time_ends(rt: &HostRuntime, times: u32) -> anyhow::Result<()> {
     let mut pair = Pair::open()?;
-    let batches = times / ends::BATCH + 1;
+    let batches = times / BATCH as u32 + 1;
     let mut challenges = 0u128;
     let mut receives = 0u128;
     for _ in 0..batches {
-        let begun = Instant::now(rt)?;
-        pair.give()?;
-        challenges = challenges.saturating_add(begun.elapsed(rt)?.as_nanos());
-        let begun = Instant::now(rt)?;
-        pair.take()?;
-        receives = receives.saturating_add(begun.elapsed(rt)?.as_nanos());
+        let (given, time) = timed(rt, || pair.give())?;
+        given?;
+        challenges = challenges.saturating_add(time);
+        let (taken, time) = timed(rt, || pair.take())?;
+        taken?;
+        receives = receives.saturating_add(time);
     }
-    let calls = batches.saturating_mul(ends::BATCH);
+    let calls = batches.saturating_mul(BATCH as u32);
     eprintln!(rt; "vector after {calls}: {}", Hex(&pair.last_vector()))?;
     eprintln!(rt; "answer after {calls}: {}", Hex(&pair.answer))?;
     eprintln!(rt; "challenge {challenges} ns, receive {receives} ns, {calls} calls each")?;
     Ok(())
 }
 
-fn run(rt: &HostRuntime) -> anyhow::Result<()> {
-    let mut args = env::args(rt)?;
-    let _program = args.next();
-    let times = match args.next() {
+fn main(rt: HostRuntime) -> anyhow::Result<()> {
+    let times = match env::args(&rt)?.nth(1) {
         Some(word) => word.as_str().parse::<u32>()?,
         None => 1_000_000,
     };
-    time_kernel(rt, times)?;
-    time_ends(rt, times)
-}
-
-fn main(rt: HostRuntime) -> anyhow::Result<()> {
-    run(&rt)
+    time_kernel(&rt, times)?;
+    time_ends(&rt, times)
 }

@@ -1,7 +1,6 @@
 ghost use Rattle.std.specs.Prelude.{◌≡◌};
 ghost use Rattle.block.specs.Refusals.{Answers};
 ghost use Rattle.aka.specs.Opening.{open_ground};
-ghost use Rattle.aka.specs.Setup.{SoundSetup};
 ghost use Rattle.aka.specs.Views.{card_setup, card_number, handed_in};
 
 use super::CardEnd;
@@ -21,25 +20,7 @@ impl<K: Kernel + Drop> CardEnd<K> {
     ) -> Result<CardEnd<K>, Refusal>
         ensures { Answers (open_ground opc.now constants.now sizes number.now) result (λ e. (card_setup K.Kernel.forth e ≡ handed_in (K.Kernel.forth kernel) opc.now constants.now sizes) × (card_number e ≡ number.now)) }
     {
-        match Core::open(kernel, opc, constants, sizes, number) {
-            Ok((core, number)) => Ok(CardEnd { core, number }),
-            Err(e) => Err(e),
-        }
-    }
-}
-
-impl<K: Kernel> CardEnd<K> {
-    // What the end was opened with is sound.
-    pub fn is_sound(&self)
-        ensures { SoundSetup (card_setup K.Kernel.forth self.now) }
-    {
-        self.core.is_sound();
-    }
-
-    // The end's size set.
-    pub fn sizes(&self) -> Sizes
-        ensures { result ≡ (card_setup K.Kernel.forth self.now).sizes }
-    {
-        self.core.admitted().sizes()
+        let (core, number) = Core::open(kernel, opc, constants, sizes, number)?;
+        Ok(CardEnd { core, number })
     }
 }

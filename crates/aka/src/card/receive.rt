@@ -10,6 +10,7 @@ use super::CardEnd;
 use crate::sizes::Admitted;
 use block::{Refusal, Wipe};
 use kernel::Kernel;
+use milenage::split_scratch;
 
 impl<K: Kernel> CardEnd<K> {
     // Takes a challenge: writes RES ‖ CK ‖ IK where its number exceeds the card's, which it becomes; otherwise refuses it as behind, and writes the AUTS of the card's number.
@@ -26,27 +27,27 @@ impl<K: Kernel> CardEnd<K> {
         ensures shows { Shows (does_receive (card_setup K.Kernel.forth self.old) (card_number self.old) rand.now autn.now (length answer.old) (length auts.old) (length scratch.old)) (told_receive result) answer.old answer.new auts.old auts.new (card_number self.new) }
     {
         let guard = Wipe(scratch);
-        match may_receive(
-            self.core.admitted(),
+        let admitted = self.core.admitted;
+        may_receive(
+            admitted,
             rand.len(),
             autn.len(),
             answer.len(),
             auts.len(),
             guard.0.len(),
-        ) {
-            Ok(()) => {}
-            Err(e) => return Err(e),
-        }
-        let number = match self.core.check_autn(rand, autn, guard.0) {
-            Some(number) => number,
-            None => return Err(Refusal::Mac),
+        )?;
+        let Some((temp, work)) = split_scratch(guard.0) else {
+            unreachable!()
+        };
+        let Some((functions, number)) = self.core.hear(rand, autn, temp, work) else {
+            return Err(Refusal::Mac);
         };
         if number > self.number {
-            self.core.write_answers(rand, answer, guard.0);
+            functions.write_answers(answer, work);
             self.number = number;
             Ok(())
         } else {
-            self.core.write_auts(self.number, rand, auts, guard.0);
+            functions.write_auts(self.number, auts, work);
             Err(Refusal::Behind)
         }
     }
@@ -63,14 +64,13 @@ fn may_receive(
 ) -> Result<(), Refusal>
     ensures { MayReceive admitted.sizes rand autn answer auts scratch result }
 {
-    let s = admitted.sizes();
-    if rand != s.rand {
+    if rand != admitted.sizes.rand {
         return Err(Refusal::Rand);
     }
-    if answer < s.res + s.ck + s.ik || auts < s.sqn + s.mac || scratch < 96 {
+    if answer < admitted.answers_size() || auts < admitted.auts_size() || scratch < 96 {
         return Err(Refusal::Buffer);
     }
-    if autn != s.sqn + 2 + s.mac {
+    if autn != admitted.autn_size() {
         return Err(Refusal::Message);
     }
     Ok(())

@@ -17,7 +17,7 @@ impl<K: Kernel> CardEnd<K> {
     ) -> Result<&'a [u8], Refusal>
         ensures { Answers (reply_ground (card_setup K.Kernel.forth self.now).sizes outcome answer.now auts.now) result (λ p. Replies (card_setup K.Kernel.forth self.now).sizes outcome answer.entry auts.entry p) }
     {
-        reply_part(self.core.admitted(), outcome, answer, auts)
+        reply_part(self.core.admitted, outcome, answer, auts)
     }
 }
 
@@ -30,11 +30,10 @@ fn reply_part<'a>(
 ) -> Result<&'a [u8], Refusal>
     ensures { Answers (reply_ground admitted.sizes outcome answer.now auts.now) result (λ p. Replies admitted.sizes outcome answer.entry auts.entry p) }
 {
-    let s = admitted.sizes();
     match outcome {
-        Ok(()) => front(answer, s.res),
-        Err(Refusal::Behind) => front(auts, s.sqn + s.mac),
-        Err(_) => Ok(&answer[0..0]),
+        Ok(()) => front(answer, admitted.sizes.res),
+        Err(Refusal::Behind) => front(auts, admitted.auts_size()),
+        Err(_) => front(answer, 0),
     }
 }
 
@@ -45,5 +44,5 @@ fn front<'a>(buffer: &'a [u8], n: usize) -> Result<&'a [u8], Refusal>
     if buffer.len() < n {
         return Err(Refusal::Buffer);
     }
-    Ok(&buffer[0..n])
+    Ok(&buffer[..n])
 }

@@ -10,14 +10,11 @@ use block::Refusal;
 pub fn read_message<'a>(admitted: Admitted, bytes: &'a [u8]) -> Result<Message<'a>, Refusal>
     ensures { Reads admitted.sizes bytes.entry result }
 {
-    let s = admitted.sizes();
-    if bytes.len() == s.sqn + 2 + s.mac {
-        return Ok(Message::Challenge(split_autn(admitted, bytes)));
+    match bytes.len() {
+        n if n == admitted.autn_size() => Ok(Message::Challenge(split_autn(admitted, bytes))),
+        n if n == admitted.auts_size() => Ok(Message::Resync(split_auts(admitted, bytes))),
+        _ => Err(Refusal::Message),
     }
-    if bytes.len() == s.sqn + s.mac {
-        return Ok(Message::Resync(split_auts(admitted, bytes)));
-    }
-    Err(Refusal::Message)
 }
 
 // The parts of an AUTN: the masked number, the AMF and MAC-A.
@@ -25,11 +22,10 @@ pub(crate) fn split_autn<'a>(admitted: Admitted, bytes: &'a [u8]) -> ChallengeTo
     requires { length bytes.now ≡ autn_size admitted.sizes }
     ensures { AutnParts admitted.sizes bytes.entry result }
 {
-    let n = admitted.sizes().sqn;
-    let all = bytes.len();
-    let masked = &bytes[0..n];
+    let n = admitted.sizes.sqn;
+    let masked = &bytes[..n];
     let amf = &bytes[n..n + 2];
-    let mac = &bytes[n + 2..all];
+    let mac = &bytes[n + 2..];
     ChallengeToken { masked, amf, mac }
 }
 
@@ -38,9 +34,8 @@ pub(crate) fn split_auts<'a>(admitted: Admitted, bytes: &'a [u8]) -> ResyncToken
     requires { length bytes.now ≡ auts_size admitted.sizes }
     ensures { AutsParts admitted.sizes bytes.entry result }
 {
-    let n = admitted.sizes().sqn;
-    let all = bytes.len();
-    let masked = &bytes[0..n];
-    let mac = &bytes[n..all];
+    let n = admitted.sizes.sqn;
+    let masked = &bytes[..n];
+    let mac = &bytes[n..];
     ResyncToken { masked, mac }
 }

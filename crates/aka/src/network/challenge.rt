@@ -12,6 +12,7 @@ use crate::sizes::Admitted;
 use crate::ticket::Ticket;
 use block::{Refusal, Wipe, fill_block};
 use kernel::Kernel;
+use milenage::split_scratch;
 
 impl<K: Kernel> NetworkEnd<K> {
     // Gives a challenge with the next number: writes its vector, and answers the ticket that names it. An open challenge ends.
@@ -27,56 +28,58 @@ impl<K: Kernel> NetworkEnd<K> {
         ensures shows { Shows (does_challenge (network_setup K.Kernel.forth self.old) (network_of self.old) rand.now amf.now (length out.old) (length scratch.old)) (told_challenge result) out.old out.new [] [] (network_of self.new) }
     {
         let guard = Wipe(scratch);
-        match may_challenge(
-            self.core.admitted(),
+        let admitted = self.core.admitted;
+        let amf = may_challenge(
+            admitted,
             self.book,
             rand.len(),
-            amf.len(),
+            amf,
             out.len(),
             guard.0.len(),
-        ) {
-            Ok(()) => {}
-            Err(e) => return Err(e),
-        }
+        )?;
+        let Some((temp, work)) = split_scratch(guard.0) else {
+            unreachable!()
+        };
         let number = self.book.number + 1;
         let given = self.book.given + 1;
-        let xres = self.core.write_vector(number, rand, amf, out, guard.0);
-        let rand = fill_block(rand);
+        let xres = self
+            .core
+            .at(rand, temp, work)
+            .write_vector(number, amf, out, work);
         self.book = Book {
             number,
             given,
             pending: Some(given),
-            rand,
+            rand: fill_block(rand),
             xres,
         };
         Ok(Ticket::issue(given))
     }
 }
 
-// Whether a challenge can be given, by the lengths of what is passed.
+// The AMF of a challenge, if it can be given.
 fn may_challenge(
     admitted: Admitted,
     book: Book,
     rand: usize,
-    amf: usize,
+    amf: &[u8],
     out: usize,
     scratch: usize,
-) -> Result<(), Refusal>
+) -> Result<[u8; 2], Refusal>
     requires { book.number < 256 ^ admitted.sizes.sqn }
-    ensures { MayChallenge admitted.sizes book.number book.given rand amf out scratch result }
+    ensures { MayChallenge admitted.sizes book.number book.given rand amf.now out scratch result }
 {
-    let s = admitted.sizes();
-    if rand != s.rand {
+    if rand != admitted.sizes.rand {
         return Err(Refusal::Rand);
     }
-    if amf != 2 {
+    let Ok(amf) = <[u8; 2]>::try_from(amf) else {
         return Err(Refusal::Amf);
-    }
-    if out < s.rand + (s.res + s.ck + s.ik) + (s.sqn + 2 + s.mac) || scratch < 96 {
+    };
+    if out < admitted.vector_size() || scratch < 96 {
         return Err(Refusal::Buffer);
     }
-    if is_largest(book.number, s.sqn) || book.given == u32::MAX {
+    if is_largest(book.number, admitted.sizes.sqn) || book.given == u32::MAX {
         return Err(Refusal::Spent);
     }
-    Ok(())
+    Ok(amf)
 }

@@ -1,7 +1,6 @@
 ghost use Rattle.std.specs.Prelude.{◌≡◌};
 ghost use Rattle.block.specs.Refusals.{Answers};
 ghost use Rattle.aka.specs.Opening.{open_ground};
-ghost use Rattle.aka.specs.Setup.{SoundSetup};
 ghost use Rattle.aka.specs.Views.{network_setup, network_of, handed_in, fresh_network};
 
 use super::{Book, NetworkEnd};
@@ -21,34 +20,14 @@ impl<K: Kernel + Drop> NetworkEnd<K> {
     ) -> Result<NetworkEnd<K>, Refusal>
         ensures { Answers (open_ground opc.now constants.now sizes number.now) result (λ e. (network_setup K.Kernel.forth e ≡ handed_in (K.Kernel.forth kernel) opc.now constants.now sizes) × (network_of e ≡ fresh_network number.now)) }
     {
-        match Core::open(kernel, opc, constants, sizes, number) {
-            Ok((core, number)) => {
-                let book = Book {
-                    number,
-                    given: 0,
-                    pending: None,
-                    rand: [0; 32],
-                    xres: [0; 32],
-                };
-                Ok(NetworkEnd { core, book })
-            }
-            Err(e) => Err(e),
-        }
-    }
-}
-
-impl<K: Kernel> NetworkEnd<K> {
-    // What the end was opened with is sound.
-    pub fn is_sound(&self)
-        ensures { SoundSetup (network_setup K.Kernel.forth self.now) }
-    {
-        self.core.is_sound();
-    }
-
-    // The end's size set.
-    pub fn sizes(&self) -> Sizes
-        ensures { result ≡ (network_setup K.Kernel.forth self.now).sizes }
-    {
-        self.core.admitted().sizes()
+        let (core, number) = Core::open(kernel, opc, constants, sizes, number)?;
+        let book = Book {
+            number,
+            given: 0,
+            pending: None,
+            rand: [0; 32],
+            xres: [0; 32],
+        };
+        Ok(NetworkEnd { core, book })
     }
 }

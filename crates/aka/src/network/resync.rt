@@ -11,6 +11,7 @@ use crate::sizes::Admitted;
 use crate::ticket::Ticket;
 use block::{Refusal, Wipe};
 use kernel::Kernel;
+use milenage::split_scratch;
 
 impl<K: Kernel> NetworkEnd<K> {
     // Takes the AUTS of the open challenge, which ends: where it tells the larger number, the end's number is raised to it.
@@ -26,14 +27,15 @@ impl<K: Kernel> NetworkEnd<K> {
     {
         let guard = Wipe(scratch);
         let rand = self.book.rand;
-        let open = self.close(ticket.spend());
-        match may_resync(self.core.admitted(), open, auts.len(), guard.0.len()) {
-            Ok(()) => {}
-            Err(e) => return Err(e),
-        }
-        let number = match self.core.check_auts(rand, auts, guard.0) {
-            Some(number) => number,
-            None => return Err(Refusal::Mac),
+        let open = self.close(ticket.spend()).is_ok();
+        let admitted = self.core.admitted;
+        may_resync(admitted, open, auts.len(), guard.0.len())?;
+        let Some((temp, work)) = split_scratch(guard.0) else {
+            unreachable!()
+        };
+        let functions = self.core.at(&rand[..admitted.sizes.rand], temp, work);
+        let Some(number) = functions.check_auts(auts, work) else {
+            return Err(Refusal::Mac);
         };
         if number > self.book.number {
             self.book.number = number;
@@ -48,14 +50,13 @@ impl<K: Kernel> NetworkEnd<K> {
 fn may_resync(admitted: Admitted, open: bool, auts: usize, scratch: usize) -> Result<(), Refusal>
     ensures { MayResync admitted.sizes (not «open») auts scratch result }
 {
-    let s = admitted.sizes();
     if scratch < 96 {
         return Err(Refusal::Buffer);
     }
     if !open {
         return Err(Refusal::Stale);
     }
-    if auts != s.sqn + s.mac {
+    if auts != admitted.auts_size() {
         return Err(Refusal::Message);
     }
     Ok(())

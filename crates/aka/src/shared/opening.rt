@@ -7,7 +7,7 @@ ghost use Rattle.aka.specs.Views.{setup_of, handed_in};
 
 use super::Core;
 use crate::numbers::read_number;
-use crate::sizes::{Admitted, Sizes};
+use crate::sizes::Sizes;
 use block::Refusal;
 use kernel::Kernel;
 
@@ -22,27 +22,20 @@ impl<K: Kernel + Drop> Core<K> {
     ) -> Result<(Core<K>, u128), Refusal>
         ensures { Answers (open_ground opc.now constants.now sizes number.now) result (λ p. (setup_of K.Kernel.forth p.0 ≡ handed_in (K.Kernel.forth kernel) opc.now constants.now sizes) × (p.1 < 256 ^ p.0.admitted.sizes.sqn) × (bytes_of sizes.sqn p.1 ≡ number.now)) }
     {
-        if opc.len() != 32 {
+        let Ok(opc) = <[u8; 32]>::try_from(opc) else {
             return Err(Refusal::OperatorField);
-        }
-        if constants.len() != 128 {
-            return Err(Refusal::Constants);
-        }
-        let admitted = match sizes.admit() {
-            Ok(admitted) => admitted,
-            Err(e) => return Err(e),
         };
+        let Ok(constants) = <[u8; 128]>::try_from(constants) else {
+            return Err(Refusal::Constants);
+        };
+        let admitted = sizes.admit()?;
         if number.len() != sizes.sqn {
             return Err(Refusal::Number);
         }
-        let mut held = [0; 32];
-        held.copy_from_slice(opc);
-        let mut all = [0; 128];
-        all.copy_from_slice(constants);
         let core = Core {
             kernel,
-            opc: held,
-            constants: all,
+            opc,
+            constants,
             admitted,
         };
         Ok((core, read_number(number)))
@@ -54,11 +47,4 @@ impl<K: Kernel> Core<K> {
     pub fn is_sound(&self)
         ensures { SoundSetup (setup_of K.Kernel.forth self.now) }
     {}
-
-    // The end's size set.
-    pub fn admitted(&self) -> Admitted
-        ensures { result ≡ self.now.admitted }
-    {
-        self.admitted
-    }
 }

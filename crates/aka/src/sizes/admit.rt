@@ -1,14 +1,37 @@
 ghost use Rattle.std.specs.Prelude.{◌≡◌, ◌<◌};
 ghost use Rattle.aka.specs.Opening.{Admits};
+ghost use Rattle.aka.specs.Tokens.{answers_size, autn_size, auts_size, vector_size};
 
 use super::{Admitted, Sizes};
 use block::Refusal;
 
 impl Admitted {
-    pub fn sizes(&self) -> Sizes
-        ensures { result ≡ self.now.sizes }
+    // The length of RES ‖ CK ‖ IK.
+    pub fn answers_size(&self) -> usize
+        ensures { result ≡ answers_size self.now.sizes }
     {
-        self.sizes
+        self.sizes.res + self.sizes.ck + self.sizes.ik
+    }
+
+    // The length of an AUTN.
+    pub fn autn_size(&self) -> usize
+        ensures { result ≡ autn_size self.now.sizes }
+    {
+        self.sizes.sqn + 2 + self.sizes.mac
+    }
+
+    // The length of an AUTS.
+    pub fn auts_size(&self) -> usize
+        ensures { result ≡ auts_size self.now.sizes }
+    {
+        self.sizes.sqn + self.sizes.mac
+    }
+
+    // The length of a vector.
+    pub fn vector_size(&self) -> usize
+        ensures { result ≡ vector_size self.now.sizes }
+    {
+        self.sizes.rand + self.answers_size() + self.autn_size()
     }
 }
 

@@ -1,42 +1,51 @@
-ghost use Rattle.std.specs.Prelude.{◌≡◌, vec_len, MatchResult, ◌≢◌};
+ghost use Rattle.std.specs.Prelude.{◌≡◌, length, vec_len, MatchResult, ◌≢◌};
 ghost use Rattle.block.specs.Bytes.{AreBytes};
 ghost use Rattle.block.specs.Refusals.{number};
-ghost use Rattle.aka.specs.Setup.{Admitted};
-ghost use Rattle.aka.specs.Tokens.{answers_size, auts_size};
 ghost use Rattle.aka.specs.Calls.{does_receive};
 ghost use Rattle.aka.specs.Views.{card_setup, card_number};
-ghost use Rattle.driver.specs.Seen.{Made, yield_of};
+ghost use Rattle.driver.specs.Seen.{Made};
+ghost use Rattle.driver.specs.Yields.{yield_of};
 ghost use Rattle.driver.specs.Called.{Wrote};
+ghost use Rattle.driver.specs.Runs.{AtCard};
 
 use super::zeroed;
+use crate::run::Run;
 use crate::types::{Answer, Outcome};
-use aka::{CardEnd, Sizes};
+use aka::{CardEnd, PairEnd};
 use block::Refusal;
 use kernel::Kernel;
-use std::alloc::{AllocError, Global};
+use std::alloc::AllocError;
 
-// Has the card receive a challenge.
-pub fn receive<K: Kernel>(
-    heap: Global,
-    rand: &[u8],
-    autn: &[u8],
-    room: usize,
-    auts_room: usize,
-    scratch: usize,
-    card: &mut CardEnd<K>,
-) -> Result<Answer, AllocError>
-    ensures setup { card_setup K.Kernel.forth card.new ≡ card_setup K.Kernel.forth card.old }
-    ensures answers { MatchResult result (λ a. (AreBytes rand.now × AreBytes autn.now) × Made (does_receive (card_setup K.Kernel.forth card.old) (card_number card.old) rand.now autn.now room auts_room scratch) a (card_number card.new)) (λ _. card_number card.new ≡ card_number card.old) }
-{
-    let mut wrote = zeroed(heap, room)?;
-    let mut wrote_auts = zeroed(heap, auts_room)?;
-    let mut wiped = zeroed(heap, scratch)?;
-    let yielded = receive_with(rand, autn, &mut wrote, &mut wrote_auts, &mut wiped, card);
-    Ok(Answer {
-        yielded,
-        wrote,
-        wrote_auts,
-    })
+impl<K, L: Kernel> Run<'_, '_, '_, '_, K, L> {
+    // Has the card receive a challenge.
+    pub fn receive(
+        &mut self,
+        rand: &[u8],
+        autn: &[u8],
+        room: usize,
+        auts_room: usize,
+        scratch: usize,
+    ) -> Result<Answer, AllocError>
+        ensures at_card { AtCard L.Kernel.forth self.old self.new }
+        ensures answers { MatchResult result (λ a. (AreBytes rand.now × AreBytes autn.now) × Made (does_receive (card_setup L.Kernel.forth self.old.card.now) (card_number self.old.card.now) rand.now autn.now room auts_room scratch) a (card_number self.new.card.now)) (λ _. card_number self.new.card.now ≡ card_number self.old.card.now) }
+    {
+        let mut wrote = zeroed(self.heap, room)?;
+        let mut wrote_auts = zeroed(self.heap, auts_room)?;
+        let mut wiped = zeroed(self.heap, scratch)?;
+        let yielded = receive_with(
+            rand,
+            autn,
+            &mut wrote,
+            &mut wrote_auts,
+            &mut wiped,
+            self.card,
+        );
+        Ok(Answer {
+            yielded,
+            wrote,
+            wrote_auts,
+        })
+    }
 }
 
 // The same with these buffers; what was written is left in them, and no more.
@@ -45,51 +54,37 @@ fn receive_with<K: Kernel>(
     autn: &[u8],
     wrote: &mut Vec<u8>,
     wrote_auts: &mut Vec<u8>,
-    wiped: &mut Vec<u8>,
+    wiped: &mut [u8],
     card: &mut CardEnd<K>,
-) -> Outcome
+) -> Result<Outcome, Refusal>
     ensures setup { card_setup K.Kernel.forth card.new ≡ card_setup K.Kernel.forth card.old }
     ensures strings { AreBytes rand.now × AreBytes autn.now }
-    ensures wrote { Wrote (does_receive (card_setup K.Kernel.forth card.old) (card_number card.old) rand.now autn.now (vec_len wrote.old) (vec_len wrote_auts.old) (vec_len wiped.old)) (yield_of result) wrote.new.items wrote_auts.new.items (card_number card.new) }
+    ensures wrote { Wrote (does_receive (card_setup K.Kernel.forth card.old) (card_number card.old) rand.now autn.now (vec_len wrote.old) (vec_len wrote_auts.old) (length wiped.old)) (yield_of result) wrote.new.items wrote_auts.new.items (card_number card.new) }
 {
     card.is_sound();
-    let s = card.sizes();
-    match card.receive(
-        rand,
-        autn,
-        wrote.as_mut_slice(),
-        wrote_auts.as_mut_slice(),
-        wiped.as_mut_slice(),
-    ) {
+    let answers = card.answers_size();
+    let auts = card.auts_size();
+    match card.receive(rand, autn, wrote, wrote_auts, wiped) {
         Ok(()) => {
-            wrote.truncate(answers_size(s));
+            wrote.truncate(answers);
             wrote_auts.clear();
-            Outcome::Accepted
+            Ok(Outcome::Accepted)
         }
         Err(e) => {
             wrote.clear();
-            wrote_auts.truncate(auts_size(e, s));
-            Outcome::Refused(e)
+            wrote_auts.truncate(auts_written(e, auts));
+            Err(e)
         }
     }
 }
 
-// The length of RES, CK and IK.
-fn answers_size(s: Sizes) -> usize
-    requires { Admitted s }
-    ensures { result ≡ answers_size s }
-{
-    s.res + s.ck + s.ik
-}
-
-// The length of the AUTS that comes with a refusal.
-fn auts_size(e: Refusal, s: Sizes) -> usize
-    requires { Admitted s }
-    ensures behind { number e ≡ 17 → result ≡ auts_size s }
+// How much of an AUTS of some length comes with a refusal.
+fn auts_written(e: Refusal, auts: usize) -> usize
+    ensures behind { number e ≡ 17 → result ≡ auts }
     ensures other { (number e ≢ 17) → result ≡ 0 }
 {
     match e {
-        Refusal::Behind => s.sqn + s.mac,
+        Refusal::Behind => auts,
         _ => 0,
     }
 }

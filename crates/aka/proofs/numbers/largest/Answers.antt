@@ -1,12 +1,13 @@
 use Rattle.std.proofs.Common.{arith}
-use Rattle.aka.proofs.Stepping.{power_below, power_more}
+use Rattle.std.proofs.Math.Nat.{one-le-pow}
+use Rattle.aka.proofs.Stepping.{power_below}
 use Rattle.aka.proofs.numbers.largest.Goals as goal
 
-pub overflow_mul-n : goal.overflow_mul-n
-overflow_mul-n c = omega (arith, power_below c.loop-i._i)
+pub pow-requires : goal.pow-requires
+pow-requires c = omega (arith, power_below c.args.size c.requires)
 
-pub overflow_add-n : goal.overflow_add-n
-overflow_add-n c = omega (arith, power_below c.loop-i._i)
+pub overflow_sub-result : goal.overflow_sub-result
+overflow_sub-result c = omega (arith, one-le-pow c.args.size 256 (omega arith))
 
-pub loop-i-preserved : goal.loop-i-preserved
-loop-i-preserved c = omega (arith, power_more c.loop-i._i)
+pub returns : goal.returns
+returns c = omega (arith, one-le-pow c.args.size 256 (omega arith))

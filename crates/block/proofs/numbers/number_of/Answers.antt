@@ -1,7 +1,5 @@
-use Rattle.std.proofs.Common.{◌<◌, ◌≤◌, length, ap, ◌∙◌, arith}
+use Rattle.std.proofs.Common.{◌<◌, arith}
 use Rattle.std.proofs.lemmas.Int.Digits.{number_more}
-use Rattle.std.proofs.lemmas.List.{take_all}
-use Rattle.block.specs.Numbers.{value}
 use Rattle.block.proofs.NumberLaws.{digit_fits, digit_more}
 use Rattle.block.proofs.numbers.number_of.Goals as goal
 
@@ -21,8 +19,3 @@ loop-b-preserved c =
     let k : c.from.result < 256 = omega (arith, c.type_inv.bytes c.loop-b.b-index) in
     let m = number_more 256 c.args.bytes.now c.loop-b.b-index c.loop-b-test.true in
     (omega (arith, m), digit_more c.loop-b.b-index c.loop-b.n c.from.result c.loop-b.invariant.1 k)
-
-pub returns : goal.returns
-returns c =
-    let h : length c.args.bytes.now ≤ 16 = omega arith in
-    (h, c.loop-b.invariant.0 ∙ ap value (take_all _ _ c.loop-b-test.false))

@@ -1,34 +1,39 @@
-use Rattle.std.proofs.Common.{ℕ, ◌<◌, List, vec_items, sym, ◌∙◌, subst, ap₂}
-use Rattle.aka.specs.States.{Network}
-use Rattle.aka.specs.Views.{network_setup, card_setup, handed_in}
-use Rattle.driver.specs.Seen.{logged, pair_at, pair_of}
-use Rattle.driver.specs.Opened.{Agree, fresh_pair}
-use Rattle.driver.proofs.Opening
+use Rattle.std.proofs.Common.{◌≡◌, ℕ, List, length, refl, arith, rules}
+use Rattle.std.proofs.lemmas.Grind.{common_steps}
+use Rattle.std.proofs.lemmas.Bool.Decides.{nat_tests}
+use Rattle.aka.specs.Views.{handed_in}
+use Rattle.session.specs.Log.{Fresh}
+use Rattle.driver.specs.Opened.{fresh_pair, pair_ground}
 use Rattle.driver.proofs.opened.run_pair.Goals as goal
 
-pub returns-in-Err : goal.returns-in-Err
-returns-in-Err g c =
-    c.in-Err.ensures
-    ∙ Opening.first_refused c.args.opc.now c.args.constants.now c.args.sizes c.args.network_number.now c.args.card_number.now
-    (subst (λ (n : ℕ). 0 < n) c.in-Err.ensures (Opening.number_pos c.in-Err.e))
-
-pub returns-in-Ok-drive : goal.returns-in-Ok-drive
-returns-in-Ok-drive g c =
+pub returns : goal.returns
+returns g c =
     let opc = c.args.opc.now in
     let constants = c.args.constants.now in
     let z = c.args.sizes in
     let n : List ℕ = c.args.network_number.now in
     let m : List ℕ = c.args.card_number.now in
-    let a = c.in-Ok.ensures in
-    let b = c.in-Ok-open.ensures in
-    let f : List ℕ → List ℕ = g.K.Kernel.forth c.args.network_kernel in
-    let h : List ℕ → List ℕ = g.L.Kernel.forth c.args.card_kernel in (
-      sym (Opening.second_refused opc constants z n m a.0) ∙ b.0,
-      Opening.ran g.T.Technician.chooses (handed_in f opc constants z) (handed_in h opc constants z)
-          (network_setup g.K.Kernel.forth c.in-Ok.end) (card_setup g.L.Kernel.forth c.in-Ok-open.end) c.args.turns c.args.technician.now c.drive.new.technician
-          (fresh_pair n m) (pair_of c.in-Ok.end c.in-Ok-open.end) (pair_of c.drive.new.network c.drive.new.card) (logged (vec_items c.in-Ok-drive.log)) (Agree f h)
-          a.1.0 b.1.0 (ap₂ (λ (x : Network) (y : List ℕ). pair_at x y) a.1.1 b.1.1)
-          (Opening.agree_alike f h opc constants z)
-          (Opening.opened_fresh f h opc constants z n m (Opening.number_long opc constants z n m a.0) (λ i. (c.type_inv.network_number i).fits) (Opening.number_long opc constants z m n b.0) (λ i. (c.type_inv.card_number i).fits))
-          c.in-Ok-drive.ensures.drives,
+    let a = c.in_ok-network.ensures in
+    let b = c.in_ok-card.ensures in
+    let none : pair_ground opc constants z n m ≡ 0 = search (rules, common_steps) in
+    let n_long : length n ≡ z.sqn = grind (arith, nat_tests, common_steps, a.0) in
+    let m_long : length m ≡ z.sqn = grind (arith, nat_tests, common_steps, b.0) in
+    let s = handed_in (g.K.Kernel.forth c.args.network_kernel) opc constants z in
+    let t = handed_in (g.L.Kernel.forth c.args.card_kernel) opc constants z in
+    let fresh : Fresh s t (fresh_pair n m) =
+    record {
+      given = refl;
+      pending = refl;
+      number_long = n_long;
+      number_bytes = λ i. (c.type_inv.network_number i).fits;
+      card_long = m_long;
+      card_bytes = λ i. (c.type_inv.card_number i).fits;
+    } in
+    let drove = rw (a.1.0, b.1.0, a.1.1, b.1.1) at c.in_ok-drive.ensures.drives in (
+      none,
+      record {
+        driven = drove.driven;
+        session = drove.leads.session;
+        shows = λ agree. drove.shows fresh (record { forth = agree; opc = refl; constants = refl; sizes = refl });
+      },
     )

@@ -1,10 +1,10 @@
-use Rattle.std.proofs.Common.{◌≡◌, ◌∙◌, rules}
+use Rattle.std.proofs.Common.{◌≡◌, rules}
 use Rattle.milenage.specs.Blocks.{opc_of}
-use Rattle.milenage.proofs.BlockLaws.{filled_whole}
+use Rattle.milenage.proofs.SizeLaws.{zero_found}
 use Rattle.milenage.proofs.opc.derive_opc.Goals as goal
 
-pub returns : goal.returns
+pub returns-clause-derived : goal.returns-clause-derived
 unfolding opc_of
-returns g c =
-    let f : c.fill_block.result ≡ c.args.op.now = c.fill_block.ensures ∙ filled_whole c.args.op.now c.if-op-ne32.false in
-    record { wiped = search rules; derived = (search rules, (cc)) }
+returns-clause-derived g c =
+    let op : c.in-Ok.op ≡ c.args.op.now = search rules in
+    let z = zero_found c.args.name.now in (search rules, (cc))

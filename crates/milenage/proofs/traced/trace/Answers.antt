@@ -1,32 +1,23 @@
-use Rattle.std.proofs.Common.{◌≡◌, false, ◌||◌, ltb, length, refl, ◌∙◌, rules}
+use Rattle.std.proofs.Common.{◌≡◌, ℕ, false, ◌||◌, ltb, List, length, sym, ◌∙◌, arith}
 use Rattle.std.proofs.lemmas.Bool.{le-ltb, or_from}
-use Rattle.milenage.specs.Functions.{kind_of, bad_rand, bad_size, bad_carried}
-use Rattle.milenage.specs.Calls.{asked}
-use Rattle.milenage.proofs.Refused.{number_above_0, question_refused}
-use Rattle.milenage.proofs.QuestionLaws.{told_input}
+use Rattle.std.proofs.lemmas.List.{length-take-le}
+use Rattle.std.proofs.lemmas.List.Concat.{concat_is}
+use Rattle.milenage.specs.Blocks.{trace_of}
+use Rattle.milenage.specs.Calls.{keyed, asked}
 use Rattle.milenage.proofs.traced.trace.Goals as goal
 
-pub returns-in-Err : goal.returns-in-Err
-returns-in-Err g c =
-    record {
-      wiped = search rules;
-      traced = (
-        question_refused (ltb 7 c.args.index) (bad_size (kind_of c.args.index) c.args.size) (bad_rand (length c.args.rand.now))
-            (bad_carried (kind_of c.args.index) (length c.args.carried.now)) _ _ (number_above_0 c.in-Err.e) c.in-Err.ensures,
-        refl,
-      );
-    }
+pub copy_from_slice-requires : goal.copy_from_slice-requires
+copy_from_slice-requires g c = omega (arith, length-take-le 192 c.args.out.now c.if-out-lt192.false, c.as_flattened.ensures.len)
 
-pub returns : goal.returns
-returns g c =
-    let b : (ltb (length c.args.out.now) 192 || ltb (length c.args.scratch.now) 96) ≡ false =
-    or_from _ _ (le-ltb (length c.args.out.now) 192 c.if-out-lt192.false) (le-ltb (length c.args.scratch.now) 96 c.if-guard-lt96.false) in
+pub returns-clause-traced : goal.returns-clause-traced
+returns-clause-traced g c =
     let q = asked c.args.index (length c.args.rand.now) c.args.size c.args.carried.now in
-    record {
-      wiped = search rules;
-      traced = (
-        rw b c.in-Ok.ensures.0,
-        c.lay_blocks.ensures c.args.constants.now q
-            (c.in_block.ensures ∙ told_input c.args.constants.now c.in-Ok.question q c.in-Ok.ensures.1),
-      );
-    }
+    let m = keyed (g.K.Kernel.forth c.args.kernel.now) c.args.opc.now c.args.constants.now in
+    let out : List ℕ = c.args.out.now in
+    let laid : List ℕ = c.copy_from_slice.new.self in
+    let room : (ltb (length out) 192 || ltb (length c.args.scratch.now) 96) ≡ false =
+    or_from _ _ (le-ltb (length out) 192 c.if-out-lt192.false) (le-ltb (length c.args.scratch.now) 96 c.in-Some.ensures) in
+    let same : laid ≡ trace_of m c.args.rand.now q =
+    c.copy_from_slice.ensures.after ∙ c.as_flattened.ensures.value ∙ sym (concat_is c.six_blocks-blocks.result) ∙ c.six_blocks-blocks.ensures q c.in_ok-question.ensures.1 in
+    let long : length laid ≡ 192 = omega (arith, length-take-le 192 out c.if-out-lt192.false, c.copy_from_slice.ensures.len) in
+    (rw room c.in_ok-question.ensures.0, rw (sym same, long))

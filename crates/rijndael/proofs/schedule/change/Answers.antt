@@ -1,10 +1,10 @@
 use Rattle.std.proofs.Common.{◌≡◌, ◌%◌, true, false, eqb, arith}
 use Rattle.std.proofs.lemmas.Bool.Decides.{nat_tests}
-use Rattle.rijndael.specs.Schedule.{change}
+use Rattle.rijndael.specs.Schedule.{change, xor_word}
 use Rattle.rijndael.proofs.schedule.change.Goals as goal
 
 pub returns-in-0 : goal.returns-in-0
-unfolding change
+unfolding change xor_word
 returns-in-0 c =
     let t : eqb (c.args.i % 8) 0 ≡ true = grind (arith, nat_tests) in rw t (cc)
 

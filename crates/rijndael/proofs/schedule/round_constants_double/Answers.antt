@@ -1,7 +1,5 @@
-use Rattle.field.specs.Field.{xtime}
-use Rattle.rijndael.proofs.ScheduleLaws.{doubling}
+use Rattle.rijndael.proofs.ScheduleLaws.{constants_double}
 use Rattle.rijndael.proofs.schedule.round_constants_double.Goals as goal
 
 pub returns : goal.returns
-unfolding xtime
-returns c = doubling _ tt tt tt
+returns c = constants_double

@@ -1,88 +1,54 @@
-use Rattle.std.proofs.Common.{◌≡◌, ℕ, ltb, List, length, sym, refl, ap, ◌∙◌, rules}
+use Rattle.std.proofs.Common.{◌≡◌, ℕ, ltb, List, length, Err, sym, ap, ap₂, ◌∙◌, rules}
 use Rattle.std.proofs.lemmas.Bool.{lt-ltb, le-ltb}
-use Rattle.aka.specs.declared.sizes.Admitted.{Admitted}
+use Rattle.block.specs.Bytes.{over}
+use Rattle.block.specs.Numbers.{bytes_of}
 use Rattle.aka.specs.Numbers.{exceeds}
 use Rattle.aka.specs.Setup.{Setup}
-use Rattle.aka.specs.Tokens.{autn_number}
-use Rattle.aka.specs.Grounds.{receive_ground}
+use Rattle.aka.specs.Tokens.{answers, auts, autn_number}
 use Rattle.aka.specs.Views.{card_setup, card_number}
 use Rattle.aka.proofs.Stepping.{exceeds_bytes_of}
 use Rattle.aka.proofs.Received.{shows_not_received, shows_wrong_mac, shows_accepted, shows_behind}
 use Rattle.aka.proofs.card.CardEnd.receive.Goals as goal
 
-pub returns-in-Err : goal.returns-in-Err
-returns-in-Err g c =
+pub returns-in_err-may_receive-clause-shows : goal.returns-in_err-may_receive-clause-shows
+returns-in_err-may_receive-clause-shows g c =
     let e = c.args.self.now in
-    let s : Setup = card_setup g.K.Kernel.forth e in
-    let own : List ℕ = card_number e in
-    let r : List ℕ = c.args.rand.now in
-    let u : List ℕ = c.args.autn.now in
-    let o : List ℕ = c.args.answer.now in
-    let b : List ℕ = c.args.auts.now in
-    let t : ℕ = length c.args.scratch.now in
-    record {
-      wiped = search rules;
-      setup = refl;
-      shows = shows_not_received s own r u (length o) (length b) t c.in-Err.e o b
-          (c.in-Err.ensures ∙ ap (λ (z : Admitted). receive_ground z.sizes (length r) (length u) (length o) (length b) t) c.admitted.ensures);
-    }
+    let h : c.from_residual.result ≡ Err c.in_err-may_receive.field-0.0 = search rules in
+    rw h (shows_not_received (card_setup g.K.Kernel.forth e) (card_number e) c.args.rand.now c.args.autn.now (length c.args.answer.now) (length c.args.auts.now) (length c.args.scratch.now)
+    c.in_err-may_receive.field-0.0 c.args.answer.now c.args.auts.now c.in_err-may_receive.ensures)
 
-pub returns-in-None : goal.returns-in-None
-returns-in-None g c =
+pub returns-in_default-hear-clause-shows : goal.returns-in_default-hear-clause-shows
+returns-in_default-hear-clause-shows g c =
     let e = c.args.self.now in
-    let s : Setup = card_setup g.K.Kernel.forth e in
-    let own : List ℕ = card_number e in
-    let r : List ℕ = c.args.rand.now in
-    let u : List ℕ = c.args.autn.now in
-    let o : List ℕ = c.args.answer.now in
-    let b : List ℕ = c.args.auts.now in
-    let t : ℕ = length c.args.scratch.now in
-    let k : receive_ground s.sizes (length r) (length u) (length o) (length b) t ≡ 0 =
-    ap (λ (z : Admitted). receive_ground z.sizes (length r) (length u) (length o) (length b) t) (sym c.admitted.ensures) ∙ c.in-Ok.ensures.0 in
-    record {
-      wiped = search rules;
-      setup = refl;
-      shows = shows_wrong_mac s own r u (length o) (length b) t o b k c.in-None.ensures.value;
-    }
+    shows_wrong_mac (card_setup g.K.Kernel.forth e) (card_number e) c.args.rand.now c.args.autn.now (length c.args.answer.now) (length c.args.auts.now) (length c.args.scratch.now)
+    c.args.answer.now c.args.auts.now c.in_ok-may_receive.ensures.0 c.in_default-hear.ensures
 
-pub returns-then-number-self : goal.returns-then-number-self
-returns-then-number-self g c =
+pub returns-then-number-self-clause-shows : goal.returns-then-number-self-clause-shows
+returns-then-number-self-clause-shows g c =
     let e = c.args.self.now in
     let s : Setup = card_setup g.K.Kernel.forth e in
     let own : List ℕ = card_number e in
     let r : List ℕ = c.args.rand.now in
     let u : List ℕ = c.args.autn.now in
     let o : List ℕ = c.args.answer.now in
-    let b : List ℕ = c.args.auts.now in
-    let t : ℕ = length c.args.scratch.now in
-    let k : receive_ground s.sizes (length r) (length u) (length o) (length b) t ≡ 0 =
-    ap (λ (z : Admitted). receive_ground z.sizes (length r) (length u) (length o) (length b) t) (sym c.admitted.ensures) ∙ c.in-Ok.ensures.0 in
-    let h = c.in-Some.ensures.value in
-    let q : exceeds (autn_number s r u) own ≡ ltb e.number c.in-Some.number =
-    ap (λ (x : List ℕ). exceeds x own) (sym h.1) ∙ exceeds_bytes_of s.sizes.sqn c.in-Some.number e.number h.2 e.numbered in
-    record {
-      wiped = search rules;
-      setup = refl;
-      shows = shows_accepted s own _ r u (length o) (length b) t o c.write_answers.new.out b k h.0 (q ∙ lt-ltb e.number c.in-Some.number c.if-number-self.true) c.write_answers.ensures h.1;
-    }
+    let h = c.in-Some-hear.ensures in
+    let q : exceeds (autn_number s r u) own ≡ ltb e.number c.in-Some-hear.number =
+    ap (λ (x : List ℕ). exceeds x own) (sym h.2.1) ∙ exceeds_bytes_of s.sizes.sqn c.in-Some-hear.number e.number h.2.2 e.numbered in
+    shows_accepted s own _ r u (length o) (length c.args.auts.now) (length c.args.scratch.now) o c.write_answers.new.out c.args.auts.now c.in_ok-may_receive.ensures.0 h.2.0
+    (q ∙ lt-ltb e.number c.in-Some-hear.number c.if-number-self.true)
+    (c.write_answers.ensures ∙ ap₂ (λ (x : Setup) (y : List ℕ). over (answers x y) o) h.0 h.1) h.2.1
 
-pub returns : goal.returns
-returns g c =
+pub returns-clause-shows : goal.returns-clause-shows
+returns-clause-shows g c =
     let e = c.args.self.now in
     let s : Setup = card_setup g.K.Kernel.forth e in
     let own : List ℕ = card_number e in
     let r : List ℕ = c.args.rand.now in
     let u : List ℕ = c.args.autn.now in
-    let o : List ℕ = c.args.answer.now in
-    let b : List ℕ = c.args.auts.now in
-    let t : ℕ = length c.args.scratch.now in
-    let k : receive_ground s.sizes (length r) (length u) (length o) (length b) t ≡ 0 =
-    ap (λ (z : Admitted). receive_ground z.sizes (length r) (length u) (length o) (length b) t) (sym c.admitted.ensures) ∙ c.in-Ok.ensures.0 in
-    let h = c.in-Some.ensures.value in
-    let q : exceeds (autn_number s r u) own ≡ ltb e.number c.in-Some.number =
-    ap (λ (x : List ℕ). exceeds x own) (sym h.1) ∙ exceeds_bytes_of s.sizes.sqn c.in-Some.number e.number h.2 e.numbered in
-    record {
-      wiped = search rules;
-      setup = refl;
-      shows = shows_behind s own r u (length o) (length b) t o b c.write_auts.new.out k h.0 (q ∙ le-ltb e.number c.in-Some.number c.if-number-self.false) c.write_auts.ensures;
-    }
+    let o : List ℕ = c.args.auts.now in
+    let h = c.in-Some-hear.ensures in
+    let q : exceeds (autn_number s r u) own ≡ ltb e.number c.in-Some-hear.number =
+    ap (λ (x : List ℕ). exceeds x own) (sym h.2.1) ∙ exceeds_bytes_of s.sizes.sqn c.in-Some-hear.number e.number h.2.2 e.numbered in
+    shows_behind s own r u (length c.args.answer.now) (length o) (length c.args.scratch.now) c.args.answer.now o c.write_auts.new.out c.in_ok-may_receive.ensures.0 h.2.0
+    (q ∙ le-ltb e.number c.in-Some-hear.number c.if-number-self.false)
+    (c.write_auts.ensures ∙ ap₂ (λ (x : Setup) (y : List ℕ). over (auts x y (bytes_of x.sizes.sqn e.number)) o) h.0 h.1)

@@ -2,11 +2,5 @@ use Rattle.std.proofs.Common.{arith}
 use Rattle.std.proofs.lemmas.Bool.Decides.{nat_tests}
 use Rattle.aka.proofs.shared.Core.open.Goals as goal
 
-pub returns-then-opc-ne32 : goal.returns-then-opc-ne32
-returns-then-opc-ne32 g c = grind (arith, nat_tests)
-
-pub returns-then-constants-ne128 : goal.returns-then-constants-ne128
-returns-then-constants-ne128 g c = grind (arith, nat_tests)
-
-pub returns-in-Err : goal.returns-in-Err
-returns-in-Err g c = let h = c.in-Err.ensures in grind (arith, nat_tests)
+pub returns-in_err-admitted : goal.returns-in_err-admitted
+returns-in_err-admitted g c = let h = c.in_err-admitted.ensures in grind (arith, nat_tests)

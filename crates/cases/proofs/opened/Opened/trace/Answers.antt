@@ -20,9 +20,9 @@ wrote-trace : (s : Setup) (index : ℕ) (rand : List ℕ) (size : ℕ) (carried 
 unfolding does_trace
 wrote-trace s index rand size carried room scratch h = told-traced _ _ _ _ h
 
-pub returns-in-Ok : goal.returns-in-Ok
-returns-in-Ok c =
-    let shown = c.in-Ok.ensures.shows in
+pub returns : goal.returns
+returns c =
+    let shown = c.in_ok-trace.ensures.shows in
     let w = wrote-trace (network_setup (λ k. encrypt k.keys) c.args.self.now.end) c.index.result c.deref.result.now c.args.size c.carried.result.now 192 96 shown.told in
     let i = c.index.ensures in
     let r = c.deref.ensures.value in
