@@ -20,10 +20,10 @@ abbrev pub challenge_ground : Sizes → List ℕ → ℕ → ℕ → ℕ → ℕ
 challenge_ground z n given rand amf room scratch = first (challenge_grounds z n given rand amf room scratch)
 
 -- whether a challenge can be given, with its AMF and what follows for the number, the count and the lengths
-abbrev pub MayChallenge : Sizes → ℕ → ℕ → ℕ → List ℕ → ℕ → ℕ → Result (List ℕ) Refusal → Type 0
+abbrev pub MayChallenge : {T : Type 0} → Sizes → ℕ → ℕ → ℕ → List ℕ → ℕ → ℕ → Result (List ℕ × T) Refusal → Type 0
 MayChallenge z n given rand amf room scratch (Ok v) =
     (challenge_ground z (bytes_of z.sqn n) given rand (length amf) room scratch ≡ 0) × (n + 1 < 256 ^ z.sqn) × (given < most_given)
-    × (v ≡ amf) × (rand ≡ z.rand) × (vector_size z ≤ room) × (96 ≤ scratch)
+    × (v.0 ≡ amf) × (rand ≡ z.rand) × (vector_size z ≤ room) × (96 ≤ scratch)
 MayChallenge z n given rand amf room scratch (Err e) =
     number e ≡ challenge_ground z (bytes_of z.sqn n) given rand (length amf) room scratch
 
@@ -45,7 +45,7 @@ receive_grounds z rand token room auts_room scratch right =
     ∷ (16 when not right)
     ∷ []
 
-abbrev pub MayReceive : Sizes → ℕ → ℕ → ℕ → ℕ → ℕ → Result (Unit {0}) Refusal → Type 0
+abbrev pub MayReceive : {T : Type 0} → Sizes → ℕ → ℕ → ℕ → ℕ → ℕ → Result T Refusal → Type 0
 MayReceive z rand token room auts_room scratch (Ok u) =
     (receive_ground z rand token room auts_room scratch ≡ 0)
     × (rand ≡ z.rand) × (token ≡ autn_size z) × (answers_size z ≤ room) × (auts_size z ≤ auts_room) × (96 ≤ scratch)
@@ -61,7 +61,7 @@ abbrev pub resync_grounds : Sizes → Bool → ℕ → ℕ → Bool → List Gro
 resync_grounds z old token scratch right =
     (12 when short_scratch scratch) ∷ (14 when old) ∷ (15 when not (token == auts_size z)) ∷ (16 when not right) ∷ []
 
-abbrev pub MayResync : Sizes → Bool → ℕ → ℕ → Result (Unit {0}) Refusal → Type 0
+abbrev pub MayResync : {T : Type 0} → Sizes → Bool → ℕ → ℕ → Result T Refusal → Type 0
 MayResync z old token scratch (Ok u) =
     (resync_ground z old token scratch ≡ 0) × (old ≡ false) × (token ≡ auts_size z) × (96 ≤ scratch)
 MayResync z old token scratch (Err e) = number e ≡ resync_ground z old token scratch

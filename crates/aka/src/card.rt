@@ -8,6 +8,7 @@ mod receive;
 mod replying;
 
 // The card's end of a pair.
+// Its call says again that the setup stays and that the scratch is wiped: no type says what a call leaves behind a `&mut`.
 #[derive(Drop)]
 pub struct CardEnd<K> {
     core: Core<K>,

@@ -9,7 +9,8 @@ mod reading;
 mod resync;
 
 // What moves at the network end: its number, how many challenges it gave, the serial of the open one, and its RAND and XRES.
-// The record is plain, with an `Option` of the open serial to test a ticket against, as the rules of the ends ask; RAND and XRES stand beside it.
+// The record is plain, with an `Option` of the open serial that a ticket is tested against, a form that the interface asks for
+// (docs/DECISIONS.md, 24); RAND and XRES stand beside it, blocks whose sizes the size set tells, since an end has no heap.
 #[derive(Clone, Copy)]
 struct Book {
     number: u128,

@@ -5,6 +5,7 @@ ghost use Rattle.aka.specs.Numbers.{all_ff};
 use block::{number_of, put_number};
 
 // The number that the bytes tell.
+// The bound 12 stands in the contracts of this, `is_largest` and `largest`: a size has no type of its own, since it is a plain field of the size set.
 pub(crate) fn read_number(bytes: &[u8]) -> u128
     requires { length bytes.now ≤ 12 }
     ensures value { result ≡ value bytes.now }
@@ -14,7 +15,7 @@ pub(crate) fn read_number(bytes: &[u8]) -> u128
     number_of(bytes).unwrap()
 }
 
-// The number's bytes, then zeros.
+// The number's bytes, then zeros: a block for the size that an end has, since it has no heap.
 pub(crate) fn number_block(n: u128, size: usize) -> [u8; 32]
     requires { size ≤ 32 }
     ensures { take size result ≡ bytes_of size n }

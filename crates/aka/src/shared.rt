@@ -1,5 +1,5 @@
 ghost use Rattle.std.specs.Prelude.{◌≡◌, length};
-ghost use Rattle.block.specs.Bytes.{AreBytes};
+ghost use Rattle.block.specs.Bytes.{AreBytes, IsBlock};
 
 use super::sizes::Admitted;
 
@@ -18,13 +18,12 @@ pub struct Core<K> {
     opc: [u8; 32],
     constants: [u8; 128],
     pub(crate) admitted: Admitted,
-    ghost opc_long: { length opc ≡ 32 },
-    ghost opc_bytes: { AreBytes opc },
+    ghost opc_block: { IsBlock opc },
     ghost constants_long: { length constants ≡ 128 },
     ghost constants_bytes: { AreBytes constants },
 }
 
-// The blocks that RES, CK and IK are cut from.
+// The blocks that RES, CK and IK are cut from: an end has no heap, and their sizes stand once, in its size set.
 #[derive(Clone, Copy)]
 pub struct Keys {
     pub res: [u8; 32],
@@ -32,7 +31,7 @@ pub struct Keys {
     pub ik: [u8; 32],
 }
 
-// The blocks that a vector is cut from.
+// The blocks that a vector is cut from, with their sizes in the size set as those of `Keys`.
 #[derive(Clone, Copy)]
 pub struct Parts {
     pub keys: Keys,

@@ -10,7 +10,7 @@ const KERNEL_CASES: &str = "kernel_cases.txt";
 
 const FUNCTION_TESTS: &str = "milenage256.txt";
 
-// Prints what a part came to.
+// Prints what a part came to. The tally is taken apart, for its own text does not say what was compared.
 fn tell(rt: &HostRuntime, name: &str, tally: Tally) -> anyhow::Result<()> {
     let Tally {
         compared,
@@ -20,7 +20,8 @@ fn tell(rt: &HostRuntime, name: &str, tally: Tally) -> anyhow::Result<()> {
     Ok(())
 }
 
-// Prints what a part came to, and counts it.
+// Prints what a part came to, and counts it. The handle and the total are handed on and stand in no struct: three
+// functions have them, and main reads the total.
 fn count(rt: &HostRuntime, name: &str, tally: Tally, total: &mut Tally) -> anyhow::Result<()> {
     total.join(tally);
     tell(rt, name, tally)

@@ -1,5 +1,5 @@
 use block::Refusal;
-use published::Unread;
+use published::{AtLine, Unread};
 use std::alloc::AllocError;
 use thiserror::Error;
 
@@ -32,9 +32,4 @@ pub enum Fault {
 }
 
 // A line that could not be taken, counted from 1, and why.
-#[derive(Debug, Drop, Error)]
-#[error("line {line}: {fault}")]
-pub struct Misread {
-    pub line: usize,
-    pub fault: Fault,
-}
+pub type Misread = AtLine<Fault>;

@@ -35,7 +35,7 @@ impl FunctionCase {
     // Takes a value. Those of f5** come after the MAC-S that it carries.
     pub fn take(&mut self, label: FunctionLabel, bytes: Vec<u8>) -> Result<(), Fault> {
         if label.function == Function::F5StarStar {
-            self.mac_s().map_err(|_| Fault::Order)?;
+            self.mac_s().ok_or(Fault::Order)?;
         }
         self.values.push(Value { label, bytes })?;
         Ok(())
@@ -54,13 +54,14 @@ impl FunctionCase {
     }
 
     // The MAC-S of the case, which f5** carries.
-    fn mac_s(&self) -> Result<&[u8], Fault> {
-        self.output(Function::F1Star).ok_or(Fault::Missing)
+    fn mac_s(&self) -> Option<&[u8]> {
+        self.output(Function::F1Star)
     }
 
     // The six blocks of a function.
     pub fn trace(&self, opened: &Opened, function: Function) -> Result<Trace, Fault> {
-        opened.trace(function, self.sizes.of(function), self.mac_s()?)
+        let mac_s = self.mac_s().ok_or(Fault::Missing)?;
+        opened.trace(function, self.sizes.of(function), mac_s)
     }
 
     // A function's output, of its answer block.
@@ -74,7 +75,7 @@ impl FunctionCase {
     pub fn compare(&self, opened: &Opened) -> Result<Tally, Fault>
         ensures { IfOk result (λ tally. tally.compared ≡ more (vec_len self.now.values) 0) }
     {
-        let mac_s = self.mac_s()?;
+        let mac_s = self.mac_s().ok_or(Fault::Missing)?;
         let mut tally = Tally::new();
         for value in &self.values {
             value.compare(opened, self.sizes, mac_s, &mut tally)?;

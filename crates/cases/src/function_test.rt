@@ -100,7 +100,7 @@ impl Section for FunctionTest {
     }
 }
 
-// The tests of the functions that a text prints.
+// The tests of the functions that a text prints: a name of its own, as at kernel_cases_of.
 pub fn function_tests_of(heap: Global, text: &str) -> Result<Vec<FunctionTest>, Misread> {
     sections_of(heap, text)
 }

@@ -1,10 +1,10 @@
 ghost use Rattle.std.specs.Prelude.{◌≡◌, IfOk};
+ghost use Rattle.block.specs.Bytes.{filled};
 ghost use Rattle.published.specs.Comparison.{Compared};
 ghost use Rattle.cases.specs.KernelCases.{Runs, read};
 
 use super::fault::{Fault, Misread};
 use super::print::{Section, put_once, sections_of, test_name};
-use block::fill_block;
 use kernel::Kernel;
 use published::Tally;
 use rijndael::Rijndael;
@@ -20,6 +20,7 @@ pub struct KernelCase {
 }
 
 // A block that the kernel made, and whether it is the published one.
+// It owns its block, as a case hands it out; what the crate lab compares is lent.
 #[derive(Clone, Copy)]
 pub struct Checked {
     pub block: [u8; 32],
@@ -46,20 +47,26 @@ impl Checked {
     }
 }
 
+// A value that is read, and is a block of 32 bytes.
+fn whole_block(value: &Option<Vec<u8>>) -> Result<[u8; 32], Fault>
+    ensures same { IfOk result (λ block. block ≡ read value.now) }
+    ensures filled { IfOk result (λ block. block ≡ filled (read value.now)) }
+{
+    let bytes = value.as_ref().ok_or(Fault::Missing)?;
+    <[u8; 32]>::try_from(bytes.as_slice()).map_err(|_| Fault::Missing)
+}
+
 impl KernelCase {
     // Runs the case forth and back, and compares both blocks.
     pub fn run(&self, tally: &mut Tally) -> Result<KernelRun, Fault>
         ensures { IfOk result (λ run. Runs (read self.now.key) (read self.now.x) (read self.now.y) tally.old run tally.new) }
     {
-        let (Some(key), Some(x), Some(y)) = (&self.key, &self.x, &self.y) else {
-            return Err(Fault::Missing);
-        };
-        if x.len() != 32 || y.len() != 32 {
-            return Err(Fault::Missing);
-        }
+        let key = self.key.as_ref().ok_or(Fault::Missing)?;
+        let x = whole_block(&self.x)?;
+        let y = whole_block(&self.y)?;
         let kernel = Rijndael::new(key)?;
-        let forth = Checked::new(kernel.encrypt(fill_block(x)), y, tally);
-        let back = Checked::new(kernel.decrypt(fill_block(y)), x, tally);
+        let forth = Checked::new(kernel.encrypt(x), &y, tally);
+        let back = Checked::new(kernel.decrypt(y), &x, tally);
         Ok(KernelRun { forth, back })
     }
 }
@@ -87,6 +94,7 @@ impl Section for KernelCase {
 }
 
 // The cases of the kernel that a text prints.
+// Not sections_of itself for all to call: this name tells what is read, and how sections are read stays inside the crate.
 pub fn kernel_cases_of(heap: Global, text: &str) -> Result<Vec<KernelCase>, Misread> {
     sections_of(heap, text)
 }

@@ -54,6 +54,8 @@ impl FromStr for Label {
     }
 }
 
+// No FromStr of their own for FunctionLabel and Input: it was tried, proves, and is no plainer.
+// With FromStr, Fault::Label stands in five places, and Label drops two of them again; with Options the error is made once.
 impl FunctionLabel {
     // The label of a function's value, as f1:PRF_in1.
     fn named(text: &str) -> Option<FunctionLabel> {

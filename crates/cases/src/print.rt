@@ -16,11 +16,8 @@ pub trait Section: Drop {
 // The sections that a text prints.
 pub fn sections_of<S: Section>(heap: Global, text: &str) -> Result<Vec<S>, Misread> {
     let mut sections = Vec::new(heap);
-    for (i, line) in text.lines().enumerate() {
-        take_line(heap, &mut sections, line).map_err(|fault| Misread {
-            line: i.saturating_add(1),
-            fault,
-        })?;
+    for (n, line) in (1usize..).zip(text.lines()) {
+        take_line(heap, &mut sections, line).map_err(|fault| Misread { line: n, fault })?;
     }
     Ok(sections)
 }

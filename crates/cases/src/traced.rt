@@ -1,5 +1,5 @@
 ghost use Rattle.std.specs.Prelude.{◌≡◌};
-ghost use Rattle.cases.specs.Places.{start_of, placed, label_of};
+ghost use Rattle.cases.specs.Places.{placed, label_of};
 
 use super::labelled::Labelled;
 
@@ -41,20 +41,14 @@ impl Traced {
     ];
 
     // The places whose blocks are published: all but the answer block.
+    // The 5 is counted by hand: split_last answers an Option that is never none, and the borrow checker does not cover [published @ .., _] yet.
     pub(crate) fn published() -> &'static [Traced] {
         &Traced::ALL[0..5]
-    }
-
-    // Where the block begins: the blocks stand in the order of their places.
-    fn start(self) -> usize
-        ensures { result ≡ start_of self }
-    {
-        self as usize * 32
     }
 }
 
 // The six blocks of a computation.
-// End to end, as the exported call writes them: of six blocks lent by as_flattened_mut std does not say what they end as.
+// End to end, as the exported call writes them: std has no clause for what an array is after as_flattened_mut.
 #[derive(Clone, Copy)]
 pub struct Trace {
     pub blocks: [u8; 192],
@@ -65,9 +59,7 @@ impl Trace {
     pub fn block(&self, place: Traced) -> [u8; 32]
         ensures { result ≡ placed place self.now.blocks }
     {
-        let mut block = [0; 32];
-        let start = place.start();
-        block.copy_from_slice(&self.blocks[start..start + 32]);
-        block
+        let (blocks, _) = self.blocks.as_chunks::<32>();
+        blocks[place as usize]
     }
 }

@@ -4,6 +4,7 @@
 mod complement;
 
 use aka::{CardEnd, NetworkEnd, Sizes, Ticket};
+use anyhow::Context;
 use complement::Complement;
 use milenage::standard_constants;
 use published::Hex;
@@ -14,11 +15,18 @@ const RAND: [u8; 16] = [0x3c; 16];
 
 const AMF: [u8; 2] = [0x80, 0];
 
-// A vector at these sizes: RAND, XRES, CK, IK and AUTN.
+// A vector at the smallest sizes: RAND, XRES, CK, IK and AUTN. Its places stand here and in the other programs that
+// cut vectors: programs share no crate of their own.
 type Vector = [u8; 68];
 
+// Where RAND ends in a vector.
+const RAND_END: usize = 16;
+
+// Where AUTN begins in a vector.
+const AUTN: usize = 52;
+
 // Gives a ticket up, which spends it.
-fn settle(network: &mut NetworkEnd<Complement>, ticket: Ticket) {
+fn give_up(network: &mut NetworkEnd<Complement>, ticket: Ticket) {
     let _ = network.lapse(ticket);
     // the ticket is gone
 }
@@ -33,14 +41,15 @@ fn answer(card: &mut CardEnd<Complement>, vector: Vector) -> anyhow::Result<[u8;
     let mut answer = [0; 36];
     let mut auts = [0; 14];
     let outcome = card.receive(
-        &vector[0..16],
-        &vector[52..68],
+        &vector[..RAND_END],
+        &vector[AUTN..],
         &mut answer,
         &mut auts,
         &mut [0; 96],
     );
     let part = card.reply(outcome, &answer, &auts)?;
-    Ok(part.try_into().unwrap_or([0; 4]))
+    part.try_into()
+        .context("the card's reply is no RES of 4 bytes")
 }
 
 fn ends() -> anyhow::Result<(NetworkEnd<Complement>, CardEnd<Complement>)> {
@@ -57,7 +66,7 @@ fn main(rt: HostRuntime) -> anyhow::Result<()> {
     let confirmed = match answer(&mut card, vector) {
         Ok(res) => network.confirm(ticket, &res),
         Err(e) => {
-            settle(&mut network, ticket);
+            give_up(&mut network, ticket);
             return Err(e);
         }
     };
@@ -67,7 +76,7 @@ fn main(rt: HostRuntime) -> anyhow::Result<()> {
         Err(e) => println!(rt; "refused   {e}")?,
     }
     let second = challenge(&mut network, &mut vector)?;
-    settle(&mut network, second);
+    give_up(&mut network, second);
     println!(rt; "a second challenge was given up")?;
     Ok(())
 }

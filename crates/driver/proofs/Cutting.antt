@@ -1,5 +1,5 @@
 -- What a call wrote, once its buffers are cut.
-use Rattle.std.proofs.Common.{◌≡◌, ℕ, ◌+◌, ◌<◌, Bool, true, false, eqb, List, [], ◌++◌, ap₂, length, take, drop, Some, sym, refl, ap, ◌∙◌, subst, arith, length-append, take_at}
+use Rattle.std.proofs.Common.{◌≡◌, ℕ, ◌+◌, ◌<◌, Bool, true, false, eqb, List, [], ◌++◌, ap₂, length, take, drop, Some, Ok, Err, Result, sym, refl, ap, ◌∙◌, subst, arith, length-append, take_at}
 use Rattle.block.specs.Bytes.{AreBytes, IsBlock, over, ◌⊕◌, filled}
 use Rattle.block.proofs.ByteLaws.{length_⊕}
 use Rattle.aka.specs.Numbers.{exceeds}
@@ -9,7 +9,10 @@ use Rattle.milenage.specs.Blocks.{temp, trace_of}
 use Rattle.milenage.proofs.BlockLaws.{block_block}
 use Rattle.session.proofs.Asked.{Fine, asks}
 use Rattle.session.proofs.Agreeing.{trace_grounds, traced_by, trace_fine}
-use Rattle.block.specs.Refusals.{Ground}
+use Rattle.std.specs.Prelude.{MatchResult}
+use Rattle.block.specs.Refusals.{Ground, number}
+use Rattle.block.specs.declared.refusal.Refusal.{Refusal}
+use Rattle.block.specs.declared.refusal.Refusal.TheVariants.{Behind}
 use Rattle.aka.specs.Numbers.{next_number}
 use Rattle.aka.specs.Setup.{Setup, SoundSetup, keyed, f2, ak_star, mac_s}
 use Rattle.aka.specs.Tokens.{vector, answers, auts, vector_size, answers_size, auts_size, autn_number}
@@ -20,6 +23,10 @@ use Rattle.session.proofs.Refusing
 use Rattle.session.proofs.Asked
 use Rattle.session.proofs.Steps
 use Rattle.session.proofs.Counting
+use Rattle.aka.specs.Told.{told_receive, told_trace}
+use Rattle.driver.specs.declared.types.Outcome.{Outcome}
+use Rattle.driver.specs.declared.types.Outcome.TheVariants.{Accepted, Traced}
+use Rattle.driver.specs.Yields.{yield_of}
 use Rattle.driver.specs.Called.{Wrote}
 
 -- what was written at the front is what is left when the buffer is cut to its length
@@ -139,6 +146,10 @@ not_refused n e = let z : ◌≡◌ {A = ℕ} 0 1 = cc in omega arith
 number_of : (m n : ℕ) → refused m ≡ refused n → m ≡ n
 number_of m n e = cc
 
+-- 17 is the number of one refusal
+behind_of : (e : Refusal) → number e ≡ 17 → e ≡ Behind
+behind_of e h = grind (arith)
+
 module _ (s : Setup) (ok : SoundSetup s) (own rand token : List ℕ) (room auts_room scratch : ℕ) (long : length own ≡ s.sizes.sqn) where
   told_taken : Told s (Steps.taken s rand token)
   told_taken =
@@ -178,27 +189,42 @@ module _ (s : Setup) (ok : SoundSetup s) (own rand token : List ℕ) (room auts_
     abbrev Cut : Yield → Type 0
     Cut y = Wrote (does_receive s own rand token room auts_room scratch) y wrote wrote_auts end
 
-    pub receive_taken : Ends accepted → wrote ≡ take (answers_size s.sizes) after → wrote_auts ≡ [] → Cut accepted
+    receive_taken : Ends accepted → wrote ≡ take (answers_size s.sizes) after → wrote_auts ≡ [] → Cut accepted
     receive_taken h i j =
         let k = received_told.taken (sym h.told) in
         record { told = h.told; writes = i ∙ cut _ before after _ h.wrote k.0; writes_auts = j ∙ sym k.1; left = h.left }
 
-    pub receive_behind : Ends (refused 17) → wrote ≡ [] → wrote_auts ≡ take (auts_size s.sizes) auts_after → Cut (refused 17)
+    receive_behind : Ends (refused 17) → wrote ≡ [] → wrote_auts ≡ take (auts_size s.sizes) auts_after → Cut (refused 17)
     receive_behind h i j =
         let k = received_told.behind (sym h.told) in
         record { told = h.told; writes = i ∙ sym k.0; writes_auts = j ∙ cut _ auts_before auts_after _ h.wrote_auts k.1; left = h.left }
 
-    pub receive_refused : (n : ℕ) → (n ≡ 17 → ⊥) → Ends (refused n) → wrote ≡ [] → wrote_auts ≡ [] → Cut (refused n)
+    receive_refused : (n : ℕ) → (n ≡ 17 → ⊥) → Ends (refused n) → wrote ≡ [] → wrote_auts ≡ [] → Cut (refused n)
     receive_refused n apart h i j =
         let k = received_told.other n apart (sym h.told) in
         record { told = h.told; writes = i ∙ sym k.0; writes_auts = j ∙ sym k.1; left = h.left }
 
-    pub receive_denied : (n : ℕ) → Ends (refused n) → wrote ≡ [] → (n ≡ 17 → wrote_auts ≡ take (auts_size s.sizes) auts_after)
+    receive_denied : (n : ℕ) → Ends (refused n) → wrote ≡ [] → (n ≡ 17 → wrote_auts ≡ take (auts_size s.sizes) auts_after)
         → ((n ≡ 17 → ⊥) → wrote_auts ≡ []) → Cut (refused n)
     receive_denied n h i behind other =
         by_eqb n 17 (Cut (refused n))
         (λ e. subst (λ (k : ℕ). Cut (refused k)) (sym e) (receive_behind (subst (λ (k : ℕ). Ends (refused k)) e h) i (behind e)))
         (λ d. receive_refused n d h i (other d))
+
+    -- what is kept of both buffers, where m bytes are left of that of the AUTS
+    pub receive_kept : (r : Result (Unit {0}) Refusal) (y : Result Outcome Refusal) (rest auts_rest : List ℕ) (n o k m : ℕ) → length after ≡ n → length auts_after ≡ o
+        → k ≡ answers_size s.sizes → Ends (told_receive r)
+        → MatchResult r (λ _. y ≡ Ok Accepted) (λ e. y ≡ Err e)
+        → MatchResult y (λ _. wrote ≡ take k (take n (after ++ rest))) (λ _. wrote ≡ [])
+        → (y ≡ Err Behind → m ≡ auts_size s.sizes) → ((y ≡ Err Behind → ⊥) → m ≡ 0)
+        → wrote_auts ≡ take m (take o (auts_after ++ auts_rest)) → Cut (yield_of y)
+    receive_kept (Ok u) y rest auts_rest n o k m long auts_long size h e w behind other cut_auts =
+        rw e (receive_taken h (left after rest wrote n (answers_size s.sizes) k long size (rw e at w))
+        (left auts_after auts_rest wrote_auts o 0 m auts_long (other (λ d. let f = sym e ∙ d in cc)) cut_auts))
+    receive_kept (Err x) y rest auts_rest n o k m long auts_long size h e w behind other cut_auts =
+        rw e (receive_denied (number x) h (rw e at w)
+        (λ i. left auts_after auts_rest wrote_auts o (auts_size s.sizes) m auts_long (behind (e ∙ ap Err (behind_of x i))) cut_auts)
+        (λ d. left auts_after auts_rest wrote_auts o 0 m auts_long (other (λ i. let f = sym e ∙ i in let g : number x ≡ 17 = cc in d g)) cut_auts))
 
 -- ── trace ──
 
@@ -237,11 +263,19 @@ module _ (s : Setup) (ok : SoundSetup s) (blocks : (x : List ℕ) → IsBlock x 
     trace_auts = never_auts (trace_grounds index rand size carried room scratch) tt (traced_by s rand (asks index rand size carried)) refl refl
 
     module _ (before after wrote : List ℕ) where
-      pub trace_given : AreBytes rand → AreBytes carried → Shows (does_trace s index rand size carried room scratch) traced before after [] [] tt
+      trace_given : AreBytes rand → AreBytes carried → Shows (does_trace s index rand size carried room scratch) traced before after [] [] tt
           → wrote ≡ take 192 after → Wrote (does_trace s index rand size carried room scratch) traced wrote [] tt
       trace_given b c h e =
           record { told = h.told; writes = e ∙ cut _ before after 192 h.wrote (trace_size b c (sym h.told)); writes_auts = sym trace_auts; left = h.left }
 
-      pub trace_denied : (n : ℕ) → Shows (does_trace s index rand size carried room scratch) (refused n) before after [] [] tt → wrote ≡ []
+      trace_denied : (n : ℕ) → Shows (does_trace s index rand size carried room scratch) (refused n) before after [] [] tt → wrote ≡ []
           → Wrote (does_trace s index rand size carried room scratch) (refused n) wrote [] tt
       trace_denied n h e = record { told = h.told; writes = e ∙ sym (trace_refused n (sym h.told)); writes_auts = sym trace_auts; left = h.left }
+
+      pub trace_kept : (r : Result (Unit {0}) Refusal) (y : Result Outcome Refusal) (rest : List ℕ) (n : ℕ) → length after ≡ n → AreBytes rand → AreBytes carried
+          → Shows (does_trace s index rand size carried room scratch) (told_trace r) before after [] [] tt
+          → MatchResult r (λ _. y ≡ Ok Traced) (λ e. y ≡ Err e)
+          → MatchResult y (λ _. wrote ≡ take 192 (take n (after ++ rest))) (λ _. wrote ≡ [])
+          → Wrote (does_trace s index rand size carried room scratch) (yield_of y) wrote [] tt
+      trace_kept (Ok u) y rest n long b c h e k = rw e (trace_given b c h (left after rest wrote n 192 192 long refl (rw e at k)))
+      trace_kept (Err x) y rest n long b c h e k = rw e (trace_denied (number x) h (rw e at k))

@@ -20,7 +20,7 @@ impl<K: Kernel, L> Run<'_, '_, '_, '_, K, L> {
     {
         let mut all = Ok(());
         let mut left = mem::replace(self.tickets, Vec::new(self.heap)).into_iter();
-        // a `for` takes a Vec of values that may be dropped, and a ticket may not
+        // a `for` takes values that may be dropped, and a ticket may not
         while let Some(ticket) = left.next() {
             let noted = self.note_lapse(ticket);
             all = all.and(noted);

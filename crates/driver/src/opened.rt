@@ -11,6 +11,7 @@ use rijndael::Rijndael;
 use std::alloc::Global;
 
 // Opens a network end and a card that are set up alike but for their kernels and numbers, and drives them.
+// What the two ends are opened with stands one by one, as in `open` of either: the rules of opening name each with its refusal.
 pub fn run_pair<T: Technician, K: Kernel + Drop, L: Kernel + Drop>(
     heap: Global,
     technician: &mut T,

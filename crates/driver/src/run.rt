@@ -10,7 +10,10 @@ use kernel::Kernel;
 use std::alloc::{AllocError, Global};
 
 // A pair that is driven: its two ends, the tickets held, oldest first, and the log.
+// What a call leaves as it was has one name in its contract (`AtNetwork`, `AtCard`, `SameEnds`): no type says what stays behind a `&mut`.
+// Each call tells that the bytes it was handed are bytes (`AreBytes`), which the laws over the log ask of its entries.
 // A lifetime for each reference: with one for all, the borrows of `drive` get no proof.
+// The tickets and the log are borrowed: `drive` hands the log out, and would have to take a run that owned it apart again.
 #[derive(Drop)]
 pub struct Run<'n, 'c, 't, 'l, K, L> {
     pub heap: Global,
@@ -22,6 +25,7 @@ pub struct Run<'n, 'c, 't, 'l, K, L> {
 
 impl<K: Kernel, L: Kernel> Run<'_, '_, '_, '_, K, L> {
     // Makes the calls that are chosen, and lapses the tickets left over.
+    // The technician and the turns are handed on to `perform_all` as `drive` has them: a struct of the two would be made for these two calls alone.
     pub(crate) fn run<T: Technician>(
         &mut self,
         technician: &mut T,
@@ -71,6 +75,7 @@ impl<K: Kernel, L: Kernel> Run<'_, '_, '_, '_, K, L> {
     }
 
     // Makes the call of a step, unless it names a ticket that is not held.
+    // Longer than forty lines: one arm for each step, and each field on a line.
     fn make_call(&mut self, step: &Step) -> Result<Option<Answer>, AllocError>
         ensures ends { SameEnds K.Kernel.forth L.Kernel.forth self.old self.new }
         ensures log { self.new.log ≡ self.old.log }
@@ -109,6 +114,7 @@ impl<K: Kernel, L: Kernel> Run<'_, '_, '_, '_, K, L> {
                 room,
                 scratch,
             } => match end {
+                // two equal calls: one at a `&dyn PairEnd` of either end was tried, and the borrow checker does not cover it
                 End::Network => {
                     let network = &*self.network;
                     trace(heap, *index, rand, *size, carried, *room, *scratch, network)

@@ -12,7 +12,7 @@ impl fmt::Display for End {
     }
 }
 
-// The call with its arguments.
+// The call with its arguments. Longer than forty lines: one arm for each step, and each field on a line.
 impl fmt::Display for Step {
     fn fmt<W: fmt::Write>(&self, f: &mut fmt::Formatter<W>) -> fmt::Result {
         match self {

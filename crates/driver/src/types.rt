@@ -17,6 +17,7 @@ pub enum End {
 
 // A call that a technician has made at a pair, with its arguments: of a ticket its serial, of a buffer and of the scratch its length.
 // `B` is how those bytes are handed that a technician may take from the log.
+// The index of a trace is a number, as in the call: one that no function has is refused there.
 #[derive(Debug, Drop, PartialEq, Eq)]
 pub enum Step<B = Vec<u8>> {
     Challenge {
@@ -93,7 +94,7 @@ pub struct Noted {
     pub answer: Answer,
 }
 
-// Why a run has no log: an end was not opened, or there was no memory.
+// Why a run has no log: what it needs was refused, as a key, an OPc or the opening of an end, or there was no memory.
 #[derive(Clone, Copy, Debug, PartialEq, Eq)]
 pub enum Stopped {
     Refused(Refusal),
@@ -101,6 +102,9 @@ pub enum Stopped {
 }
 
 impl Error for Stopped {}
+
+// The conversions are by hand: those that thiserror derives have no clause, and the contract of `run_pair` names the error that `?` makes.
+// Its print then stands by hand too, in `text`: one more crate for two lines of it would be no plainer.
 
 impl From<Refusal> for Stopped {
     ghost from_gives = { λ e stopped. stopped ≡ Refused e };

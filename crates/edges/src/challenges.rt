@@ -1,5 +1,5 @@
 use super::ends::{challenge, opened};
-use super::report::{Case, Report, part};
+use super::report::{Case, Report, front_mut, part};
 use aka::NetworkEnd;
 use block::Refusal;
 
@@ -50,8 +50,8 @@ fn attempt(c: &ChallengeCall) -> anyhow::Result<Option<Refusal>> {
     let outcome = end.challenge(
         part(c.rand),
         part(c.amf),
-        &mut out[0..c.out.min(96)],
-        &mut scratch[0..c.scratch.min(96)],
+        front_mut(&mut out, c.out),
+        front_mut(&mut scratch, c.scratch),
     );
     Ok(outcome.and_then(|ticket| end.lapse(ticket)).err())
 }

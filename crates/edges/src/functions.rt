@@ -1,5 +1,5 @@
 use super::ends::{KEY, kernel};
-use super::report::{Case, Report, part};
+use super::report::{Case, Report, front_mut, part};
 use block::Refusal;
 use kernel::Whitened;
 use milenage::{cut, derive_opc, standard_constants, trace};
@@ -123,8 +123,8 @@ fn traced(kernel: &Rijndael, c: &TraceCall) -> Option<Refusal> {
         part(c.rand),
         c.size,
         part(c.carried),
-        &mut out[0..c.out.min(192)],
-        &mut scratch[0..c.scratch.min(96)],
+        front_mut(&mut out, c.out),
+        front_mut(&mut scratch, c.scratch),
     )
     .err()
 }
@@ -135,7 +135,7 @@ fn derived(kernel: &Rijndael, c: &DeriveCall) -> Option<Refusal> {
         kernel,
         part(c.op),
         part(c.name),
-        &mut scratch[0..c.scratch.min(96)],
+        front_mut(&mut scratch, c.scratch),
     )
     .err()
 }

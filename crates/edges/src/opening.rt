@@ -48,7 +48,7 @@ const OPENINGS: [Case<OpenCall>; 20] = [
 ];
 
 impl OpenCall {
-    // Opens an end of either kind.
+    // Opens an end of either kind, by the function that is handed in: see `opened`.
     fn attempt<E: Drop, F: FnOnce(Rijndael, &[u8], &[u8], Sizes, &[u8]) -> Result<E, Refusal>>(
         &self,
         opens: F,

@@ -1,17 +1,16 @@
-use super::ends::{AUTN, Vector, auts_of, challenge, opened};
-use super::report::{Case, Report, part};
+use super::ends::{AUTN, AUTN_LAST, RAND_END, Vector, auts_of, challenge, opened};
+use super::report::{Case, Report, front, front_mut, part};
 use aka::{CardEnd, NetworkEnd, PairEnd};
 use block::Refusal;
-use rijndael::Rijndael;
 
-// A receive by the lengths of what it is handed; of AUTN its first bytes, the last one spoiled or not; at a card that has seen it or not.
+// A receive by the lengths of what it is handed; of AUTN its first bytes, the last one altered or not; at a card that has seen it or not.
 struct ReceiveCall {
     rand: usize,
     autn: usize,
     answer: usize,
     auts: usize,
     scratch: usize,
-    spoiled: bool,
+    altered: bool,
     seen: bool,
 }
 
@@ -21,7 +20,7 @@ const GOOD: ReceiveCall = ReceiveCall {
     answer: 36,
     auts: 14,
     scratch: 96,
-    spoiled: false,
+    altered: false,
     seen: false,
 };
 
@@ -37,13 +36,13 @@ const RECEIVES: [Case<ReceiveCall>; 17] = [
     Case { case: "AUTS buffer 13", asked: ReceiveCall { auts: 13, ..GOOD }, wanted: Some(Refusal::Buffer) },
     Case { case: "scratch 95", asked: ReceiveCall { scratch: 95, ..GOOD }, wanted: Some(Refusal::Buffer) },
     Case { case: "answer 0 and AUTN 15", asked: ReceiveCall { autn: 15, answer: 0, ..GOOD }, wanted: Some(Refusal::Buffer) },
-    Case { case: "AUTS buffer 0 and MAC", asked: ReceiveCall { auts: 0, spoiled: true, ..GOOD }, wanted: Some(Refusal::Buffer) },
+    Case { case: "AUTS buffer 0 and MAC", asked: ReceiveCall { auts: 0, altered: true, ..GOOD }, wanted: Some(Refusal::Buffer) },
     Case { case: "answer 35 and behind", asked: ReceiveCall { answer: 35, seen: true, ..GOOD }, wanted: Some(Refusal::Buffer) },
     Case { case: "AUTN 15", asked: ReceiveCall { autn: 15, ..GOOD }, wanted: Some(Refusal::Message) },
     Case { case: "AUTN 0", asked: ReceiveCall { autn: 0, ..GOOD }, wanted: Some(Refusal::Message) },
     Case { case: "AUTN 15 and behind", asked: ReceiveCall { autn: 15, seen: true, ..GOOD }, wanted: Some(Refusal::Message) },
-    Case { case: "MAC", asked: ReceiveCall { spoiled: true, ..GOOD }, wanted: Some(Refusal::Mac) },
-    Case { case: "MAC and behind", asked: ReceiveCall { spoiled: true, seen: true, ..GOOD }, wanted: Some(Refusal::Mac) },
+    Case { case: "MAC", asked: ReceiveCall { altered: true, ..GOOD }, wanted: Some(Refusal::Mac) },
+    Case { case: "MAC and behind", asked: ReceiveCall { altered: true, seen: true, ..GOOD }, wanted: Some(Refusal::Mac) },
 ];
 
 // A reply to an outcome, by the lengths of the two buffers.
@@ -70,30 +69,24 @@ fn vector() -> anyhow::Result<Vector> {
     Ok(vector)
 }
 
-// A card, which has received the challenge of a vector or not.
-fn card(vector: &Vector, seen: bool) -> anyhow::Result<CardEnd<Rijndael>> {
-    let mut card = opened(CardEnd::open, [0; 6])?;
-    if seen {
-        let _ = auts_of(&mut card, vector);
-    }
-    Ok(card)
-}
-
 fn attempt(c: &ReceiveCall) -> anyhow::Result<Option<Refusal>> {
     let mut sent = vector()?;
-    let mut card = card(&sent, c.seen)?;
-    if c.spoiled {
-        sent[67] ^= 1;
+    let mut card = opened(CardEnd::open, [0; 6])?;
+    if c.seen {
+        let _ = auts_of(&mut card, &sent);
+    }
+    if c.altered {
+        sent[AUTN_LAST] ^= 1;
     }
     let mut answer = [0; 36];
     let mut auts = [0; 14];
     let mut scratch = [9; 96];
     let outcome = card.receive(
-        &sent[0..c.rand.min(16)],
-        &sent[AUTN..AUTN + c.autn.min(16)],
-        &mut answer[0..c.answer.min(36)],
-        &mut auts[0..c.auts.min(14)],
-        &mut scratch[0..c.scratch.min(96)],
+        front(&sent[..RAND_END], c.rand),
+        front(&sent[AUTN..], c.autn),
+        front_mut(&mut answer, c.answer),
+        front_mut(&mut auts, c.auts),
+        front_mut(&mut scratch, c.scratch),
     );
     Ok(outcome.err())
 }

@@ -15,6 +15,17 @@ pub fn part(n: usize) -> &'static [u8] {
     &BYTES[0..n.min(256)]
 }
 
+// The first bytes, as many as wanted, or all where there are fewer.
+pub fn front(bytes: &[u8], n: usize) -> &[u8] {
+    &bytes[..n.min(bytes.len())]
+}
+
+// The first bytes, as many as wanted, or all where there are fewer, to be written.
+pub fn front_mut(bytes: &mut [u8], n: usize) -> &mut [u8] {
+    let n = n.min(bytes.len());
+    &mut bytes[..n]
+}
+
 // How many cases came out as they should, and how many did not. Each is printed as it comes.
 pub struct Report<'a> {
     rt: &'a HostRuntime,

@@ -1,20 +1,23 @@
 use super::ends::{auts_of, challenge, opened};
-use super::report::{Case, Report};
+use super::report::{Case, Report, front, front_mut};
 use aka::{CardEnd, NetworkEnd};
 use block::Refusal;
 
-// A resynchronisation by the length of its AUTS, whose last byte is spoiled or not, and of its scratch; with a stale ticket or not.
+// A resynchronisation by the length of its AUTS, whose last byte is altered or not, and of its scratch; with a stale ticket or not.
 struct ResyncCall {
     stale: bool,
     auts: usize,
-    spoiled: bool,
+    altered: bool,
     scratch: usize,
 }
+
+// The last byte of an AUTS. A place and no `last_mut`, which gives an option that is never empty here.
+const AUTS_LAST: usize = 13;
 
 const GOOD: ResyncCall = ResyncCall {
     stale: false,
     auts: 14,
-    spoiled: false,
+    altered: false,
     scratch: 96,
 };
 
@@ -24,13 +27,13 @@ const RESYNCS: [Case<ResyncCall>; 11] = [
     Case { case: "scratch 95", asked: ResyncCall { scratch: 95, ..GOOD }, wanted: Some(Refusal::Buffer) },
     Case { case: "scratch 0 and stale", asked: ResyncCall { stale: true, scratch: 0, ..GOOD }, wanted: Some(Refusal::Buffer) },
     Case { case: "scratch 95 and AUTS 13", asked: ResyncCall { auts: 13, scratch: 95, ..GOOD }, wanted: Some(Refusal::Buffer) },
-    Case { case: "scratch 95 and MAC", asked: ResyncCall { spoiled: true, scratch: 95, ..GOOD }, wanted: Some(Refusal::Buffer) },
+    Case { case: "scratch 95 and MAC", asked: ResyncCall { altered: true, scratch: 95, ..GOOD }, wanted: Some(Refusal::Buffer) },
     Case { case: "stale", asked: ResyncCall { stale: true, ..GOOD }, wanted: Some(Refusal::Stale) },
     Case { case: "stale and AUTS 0", asked: ResyncCall { stale: true, auts: 0, ..GOOD }, wanted: Some(Refusal::Stale) },
-    Case { case: "stale and MAC", asked: ResyncCall { stale: true, spoiled: true, ..GOOD }, wanted: Some(Refusal::Stale) },
+    Case { case: "stale and MAC", asked: ResyncCall { stale: true, altered: true, ..GOOD }, wanted: Some(Refusal::Stale) },
     Case { case: "AUTS 13", asked: ResyncCall { auts: 13, ..GOOD }, wanted: Some(Refusal::Message) },
     Case { case: "AUTS 0", asked: ResyncCall { auts: 0, ..GOOD }, wanted: Some(Refusal::Message) },
-    Case { case: "MAC", asked: ResyncCall { spoiled: true, ..GOOD }, wanted: Some(Refusal::Mac) },
+    Case { case: "MAC", asked: ResyncCall { altered: true, ..GOOD }, wanted: Some(Refusal::Mac) },
 ];
 
 // Resynchronises a network end with a card that is ahead of it.
@@ -40,8 +43,8 @@ fn attempt(c: &ResyncCall) -> anyhow::Result<Option<Refusal>> {
     let mut vector = [0; 68];
     let ticket = challenge(&mut network, &mut vector)?;
     let mut auts = auts_of(&mut card, &vector);
-    if c.spoiled {
-        auts[13] ^= 1;
+    if c.altered {
+        auts[AUTS_LAST] ^= 1;
     }
     if c.stale {
         let next = challenge(&mut network, &mut vector);
@@ -50,8 +53,8 @@ fn attempt(c: &ResyncCall) -> anyhow::Result<Option<Refusal>> {
     let mut scratch = [0; 96];
     let outcome = network.resync(
         ticket,
-        &auts[0..c.auts.min(14)],
-        &mut scratch[0..c.scratch.min(96)],
+        front(&auts, c.auts),
+        front_mut(&mut scratch, c.scratch),
     );
     Ok(outcome.err())
 }

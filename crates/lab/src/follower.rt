@@ -30,7 +30,8 @@ impl Follower {
         }
     }
 
-    // A step of the script as a call. An arm for each: a function for each would be handed the same fields.
+    // A step of the script as a call. Longer than forty lines: one arm for each step, and each field on a line; a function
+    // for each would be handed the same fields.
     fn call(&self, step: Step<Source>, latest: Latest<'_>) -> Result<Step, AllocError> {
         let call = match step {
             Step::Challenge {

@@ -22,6 +22,7 @@ pub fn check(rt: &HostRuntime) -> anyhow::Result<()> {
     for case in &cases {
         run_case(rt, case, &mut tally)?;
     }
+    // taken apart, for the tally's own text does not say that blocks were compared
     let Tally {
         compared,
         differing,

@@ -6,43 +6,27 @@ use driver::{Noted, Step, Stopped, run_one_key, run_pair};
 use kernel::{Chained, Kernel, Whitened};
 use milenage::{derive_opc, standard_constants};
 use rijndael::Rijndael;
-use script::{Layers, Order, Setting, Source, parse};
+use script::{Base, Layers, Operator, Order, Setting, Source, parse};
 use std::alloc::{AllocError, Global};
 use std::mem;
 
 // A whitened kernel over a chain of two Rijndael kernels.
 type Layered = Whitened<Chained<Rijndael, Rijndael>>;
 
-// The kernel of both ends: a Rijndael key, or layers by their masks and keys.
-#[derive(Drop)]
-enum Base {
-    Key(Vec<u8>),
-    Layers(Layers),
-}
-
-// OPc, or the OP and the name that it is derived from.
-#[derive(Drop)]
-enum Operator {
-    Opc(Vec<u8>),
-    Op { op: Vec<u8>, name: String },
-}
-
-impl Operator {
-    // OPc over a kernel.
-    fn opc<K: Kernel>(&self, heap: Global, kernel: &K) -> Result<Vec<u8>, Stopped> {
-        match self {
-            Operator::Opc(opc) => Ok(opc.clone()?),
-            Operator::Op { op, name } => {
-                let opc = derive_opc(kernel, op, name.as_bytes(), &mut [0; 96])?;
-                Ok(opc.to_vec(heap)?)
-            }
+// The OPc that is set, over a kernel.
+fn opc_of<K: Kernel>(heap: Global, operator: &Operator, kernel: &K) -> Result<Vec<u8>, Stopped> {
+    match operator {
+        Operator::Opc(opc) => Ok(opc.clone()?),
+        Operator::Op { op, name } => {
+            let opc = derive_opc(kernel, op, name.as_bytes(), &mut [0; 96])?;
+            Ok(opc.to_vec(heap)?)
         }
     }
 }
 
 // What a script has set so far, bytes of any length: one that is wrong is seen when it is refused.
 #[derive(Drop)]
-struct Draft {
+struct PairSetup {
     base: Base,
     operator: Operator,
     constants: Vec<u8>,
@@ -51,10 +35,10 @@ struct Draft {
     card_number: Vec<u8>,
 }
 
-impl Draft {
+impl PairSetup {
     // Nothing set but the standard's constants and sizes in common use.
-    fn new(heap: Global) -> Result<Draft, AllocError> {
-        Ok(Draft {
+    fn new(heap: Global) -> Result<PairSetup, AllocError> {
+        Ok(PairSetup {
             base: Base::Key(Vec::new(heap)),
             operator: Operator::Opc(Vec::new(heap)),
             constants: standard_constants().to_vec(heap)?,
@@ -69,10 +53,8 @@ impl Draft {
 
     fn set(&mut self, setting: Setting) {
         match setting {
-            Setting::Key(key) => self.base = Base::Key(key),
-            Setting::Layers(layers) => self.base = Base::Layers(layers),
-            Setting::Op { op, name } => self.operator = Operator::Op { op, name },
-            Setting::Opc(opc) => self.operator = Operator::Opc(opc),
+            Setting::Kernel(base) => self.base = base,
+            Setting::Operator(operator) => self.operator = operator,
             Setting::Constants(constants) => self.constants = constants,
             Setting::Sizes(sizes) => self.sizes = sizes,
             Setting::NetworkNumber(number) => self.network_number = number,
@@ -83,9 +65,9 @@ impl Draft {
     // Opens a pair as set, and lets the follower drive it.
     fn drive(&self, heap: Global, follower: &mut Follower) -> Result<Vec<Noted>, Stopped> {
         match &self.base {
-            // two calls, and not `run_pair` for both: `run_one_key` promises more, as its kernels are of one key
+            // two calls, and not `run_pair` for both: the laws of `run_one_key` need no agreement of kernels, so they hold of the log that is printed (docs/PROMISES.md names this call)
             Base::Key(key) => {
-                let opc = self.operator.opc(heap, &Rijndael::new(key)?)?;
+                let opc = opc_of(heap, &self.operator, &Rijndael::new(key)?)?;
                 run_one_key(
                     heap,
                     follower,
@@ -101,7 +83,7 @@ impl Draft {
             Base::Layers(layers) => {
                 let network = layered(layers)?;
                 let card = layered(layers)?;
-                let opc = self.operator.opc(heap, &network)?;
+                let opc = opc_of(heap, &self.operator, &network)?;
                 run_pair(
                     heap,
                     follower,
@@ -127,13 +109,17 @@ fn layered(layers: &Layers) -> Result<Layered, Refusal> {
 }
 
 // Runs the steps, if there are any, at a pair, and prints the log.
-fn run_session(rt: &HostRuntime, draft: &Draft, steps: Vec<Step<Source>>) -> anyhow::Result<()> {
+fn run_session(
+    rt: &HostRuntime,
+    setup: &PairSetup,
+    steps: Vec<Step<Source>>,
+) -> anyhow::Result<()> {
     if steps.is_empty() {
         return Ok(());
     }
     println!(rt; "=== session ===")?;
-    let mut follower = Follower::new(rt.alloc(), steps, draft.sizes);
-    match draft.drive(rt.alloc(), &mut follower) {
+    let mut follower = Follower::new(rt.alloc(), steps, setup.sizes);
+    match setup.drive(rt.alloc(), &mut follower) {
         Err(stopped @ Stopped::Refused(_)) => println!(rt; "{stopped}")?,
         ran => {
             for entry in &ran? {
@@ -147,18 +133,18 @@ fn run_session(rt: &HostRuntime, draft: &Draft, steps: Vec<Step<Source>>) -> any
 // Runs the sessions of a script: settings, then steps; a setting after steps begins another pair.
 fn run_orders(rt: &HostRuntime, orders: Vec<Order>) -> anyhow::Result<()> {
     let heap = rt.alloc();
-    let mut draft = Draft::new(heap)?;
+    let mut setup = PairSetup::new(heap)?;
     let mut steps = Vec::new(heap);
     for order in orders {
         match order {
             Order::Set(setting) => {
-                run_session(rt, &draft, mem::try_take(&mut steps)?)?;
-                draft.set(setting);
+                run_session(rt, &setup, mem::try_take(&mut steps)?)?;
+                setup.set(setting);
             }
             Order::Do(step) => steps.push(step)?,
         }
     }
-    run_session(rt, &draft, steps)
+    run_session(rt, &setup, steps)
 }
 
 // Reads a script whole, and runs it only where every line can be read.

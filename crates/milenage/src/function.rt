@@ -38,6 +38,7 @@ impl Function {
     }
 
     // The name that the function has in the standard.
+    // No `Display`: contracts speak of the name (`name_of`), and no program prints a function but by it.
     pub fn name(self) -> &'static str
         ensures { result.now ≡ name_of self }
     {

@@ -8,8 +8,8 @@ use super::scratch::{run, split_scratch};
 use block::{Refusal, Wipe, xor_blocks};
 use kernel::Kernel;
 
-// The first byte of V: a key of 32 bytes.
-const KEY_SIZE: u8 = 1;
+// The first byte of V: the code of a key of 32 bytes.
+const KEY_SIZE_CODE: u8 = 1;
 
 // OPc from OP and ALGONAME: OP ⊕ forth(forth(OP) ⊕ V).
 pub fn derive_opc<K: Kernel>(
@@ -22,15 +22,11 @@ pub fn derive_opc<K: Kernel>(
     ensures derived { Answers (derive_ground op.now name.now (length scratch.old)) result (λ v. v ≡ opc_of (K.Kernel.forth kernel.now) name.now op.now) }
 {
     let guard = Wipe(scratch);
-    let Ok(op) = <[u8; 32]>::try_from(op) else {
-        return Err(Refusal::OperatorField);
-    };
+    let op = <[u8; 32]>::try_from(op).map_err(|_| Refusal::OperatorField)?;
     if name.len() > 31 || name.contains(&0) {
         return Err(Refusal::Name);
     }
-    let Some((_, work)) = split_scratch(guard.0) else {
-        return Err(Refusal::Buffer);
-    };
+    let (_, work) = split_scratch(guard.0).ok_or(Refusal::Buffer)?;
     let x = xor_blocks(run(kernel, op, work), version_block(name));
     Ok(xor_blocks(op, run(kernel, x, work)))
 }
@@ -41,8 +37,9 @@ fn version_block(name: &[u8]) -> [u8; 32]
     ensures { result ≡ version_block name.now }
 {
     let mut version = [0; 32];
-    version[0] = KEY_SIZE;
+    version[0] = KEY_SIZE_CODE;
     let n = name.len();
+    // Byte 1 on: where the standard lays the name.
     version[1..1 + n].copy_from_slice(name);
     version
 }

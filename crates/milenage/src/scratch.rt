@@ -5,7 +5,8 @@ use kernel::Kernel;
 // Input and output of the last kernel run.
 pub type Work = [[u8; 32]; 2];
 
-// The blocks of lent scratch bytes: one for TEMP, which stays for every question, and those of a kernel run. None where they are fewer than 96.
+// The blocks at the front of lent scratch bytes: one for TEMP, which stays for every question, and those of a kernel run. None where they are fewer than 96.
+// What they hold, and what the scratch ends as, is not said: they are written before they are read, and whoever lends a scratch wipes it.
 pub fn split_scratch(scratch: &mut [u8]) -> Option<(&mut [u8; 32], &mut Work)>
     ensures { MatchOption result (length scratch.old < 96) (λ _. 96 ≤ length scratch.old) }
 {

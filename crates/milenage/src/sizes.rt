@@ -7,7 +7,9 @@ ghost use Rattle.milenage.specs.Grounds.{size_ground, sizes_ground, cut_ground};
 use super::function::Function;
 use block::Refusal;
 
-// Byte 1 of IN: which sizes a function has, and how they are packed, stands here alone.
+// Byte 1 of IN: which sizes a function has, and how they are packed.
+// The bounds of an end's size set stand once more in crate aka, in `Sizes::admit`: an end refuses a bad set before any question is asked,
+// and by other grounds (an SQN's size by `Size`, where a question has `Carried`).
 #[tactic(auto, unfolding(crate::specs::Functions::kind_of, crate::specs::Functions::bad_size, crate::specs::Functions::bad_carried, crate::specs::Question::byte1))]
 pub(crate) fn size_byte(function: Function, size: usize, carried: usize) -> Result<u8, Refusal>
     ensures { Answers (sizes_ground (index_of function) size carried) result (λ b. b ≡ byte1 (kind_of (index_of function)) size carried) }
@@ -31,7 +33,8 @@ pub(crate) fn size_byte(function: Function, size: usize, carried: usize) -> Resu
     }
 }
 
-// Whether a function has an output size, whatever it carries: that refusal alone is let pass.
+// Whether a function has an output size. Of the refusals the one of what is carried is none here, and the others are handed on.
+// The match stays: one arm takes `Carried` for none, and the other hands on; `or_else` with a closure would be no plainer.
 pub(crate) fn has_size(function: Function, size: usize) -> Result<(), Refusal>
     ensures { Answers (size_ground (index_of function) size) result (λ _. size ≤ 32) }
 {

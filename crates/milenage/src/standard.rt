@@ -2,7 +2,7 @@ ghost use Rattle.std.specs.Prelude.{◌≡◌};
 ghost use Rattle.milenage.specs.Blocks.{standard_name};
 ghost use Rattle.milenage.specs.Calls.{StandardConstants};
 
-// The constants c0 to c7 of 3GPP TS 35.235, end to end.
+// One constant a line: zeros, but for the last byte of c1 to c7, which is 1, 2, 4 and so on to 64.
 #[rattlefmt::skip]
 const STANDARD_CONSTANTS: [u8; 128] = [
     0, 0, 0, 0, 0, 0, 0, 0, 0, 0, 0, 0, 0, 0, 0, 0,

@@ -28,18 +28,15 @@ pub fn trace<'k, K: Kernel>(
 {
     let guard = Wipe(scratch);
     let question = Question::new(index, rand.len(), size, carried)?;
-    let Some((temp, work)) = split_scratch(guard.0) else {
-        return Err(Refusal::Buffer);
-    };
-    if out.len() < 192 {
-        return Err(Refusal::Buffer);
-    }
+    let (temp, work) = split_scratch(guard.0).ok_or(Refusal::Buffer)?;
+    let out = out.first_chunk_mut::<192>().ok_or(Refusal::Buffer)?;
     let blocks = six_blocks(kernel, opc, constants, rand, question, temp, work);
-    out[..192].copy_from_slice(blocks.as_flattened());
+    out.copy_from_slice(blocks.as_flattened());
     Ok(())
 }
 
 // The six blocks, and the answer block among them last.
+// Kernel, OPc and constants are handed on one by one: `Computation` holds them together, and is made of them here.
 fn six_blocks<'k, K: Kernel>(
     kernel: &'k K,
     opc: &'k [u8; 32],

@@ -6,5 +6,5 @@ mod lines;
 mod spelling;
 
 pub use compare::Tally;
-pub use lines::Line;
+pub use lines::{AtLine, Line};
 pub use spelling::{Hex, Unread, bytes_of};

@@ -1,10 +1,14 @@
 ghost use Rattle.std.specs.Prelude.{◌≡◌, ◌≢◌, ℕ, List, MatchOption};
 ghost use Rattle.published.specs.Reading.{Holds, value_line};
 
+use std::fmt;
+use thiserror::Error;
+
 // A line of published data.
 #[derive(Drop)]
 pub enum Line<'a> {
     // LABEL = { bytes }: the label, and the bytes as they are spelled
+    // in the order in which the line has them, and unnamed as the heading is
     Value(&'a str, &'a str),
     // any other line that is not empty
     Heading(&'a str),
@@ -32,4 +36,13 @@ impl<'a> From<&'a str> for Line<'a> {
             None => Line::Heading(line),
         }
     }
+}
+
+// What is wrong with a line, and the line's number from 1.
+#[derive(Clone, Copy, Debug, Drop, Error)]
+#[error_bound(E: fmt::Display)]
+#[error("line {line}: {fault}")]
+pub struct AtLine<E> {
+    pub line: usize,
+    pub fault: E,
 }

@@ -1,20 +1,15 @@
-ghost use Rattle.std.specs.Prelude.{◌≡◌, ◌<◌};
+ghost use Rattle.std.specs.Prelude.{◌≡◌};
 ghost use Rattle.rijndael.specs.Cipher.{key as key_of, encrypt as encrypt_of, decrypt as decrypt_of};
-ghost use Rattle.rijndael.specs.State.{sub as subbed, unsub as unsubbed, shift as shifted, unshift as unshifted, mix as mixed, unmix as unmixed, add as added};
+ghost use Rattle.rijndael.specs.State.{table, sub as subbed, unsub as unsubbed, shift as shifted, unshift as unshifted, mix as mixed, unmix as unmixed, add as added};
 
 use super::state::{Keys, State, add, load, mix, shift, store, sub, unmix, unshift, unsub};
 
-// Round key n.
-pub(super) fn key(keys: &Keys, n: usize) -> State
-    requires { n < 15 }
-    ensures { result ≡ key_of keys.now n }
+// The fifteen round keys, four rows each.
+pub(super) fn split(keys: &Keys) -> &[State]
+    ensures { result.now ≡ table 15 (key_of keys.now) }
 {
-    [
-        keys[4 * n],
-        keys[4 * n + 1],
-        keys[4 * n + 2],
-        keys[4 * n + 3],
-    ]
+    let (round_keys, _) = keys.as_chunks::<4>();
+    round_keys
 }
 
 // A round under the round key k, with its column mix.
@@ -34,21 +29,25 @@ fn unround(k: State, s: State) -> State
 pub fn encrypt(keys: &Keys, x: [u8; 32]) -> [u8; 32]
     ensures { result ≡ encrypt_of keys.now x }
 {
-    let mut s = add(key(keys, 0), load(x));
-    for n in 1..14 {
-        let t = round(key(keys, n), s);
+    let round_keys = split(keys);
+    let mut s = add(round_keys[0], load(x));
+    // A round's result goes to s by t: Rattle does not read a call whose result is laid in an array that stands already.
+    for k in &round_keys[1..14] {
+        let t = round(*k, s);
         s = t;
     }
-    store(add(key(keys, 14), shift(sub(s))))
+    store(add(round_keys[14], shift(sub(s))))
 }
 
 pub fn decrypt(keys: &Keys, x: [u8; 32]) -> [u8; 32]
     ensures { result ≡ decrypt_of keys.now x }
 {
-    let mut s = unsub(unshift(add(key(keys, 14), load(x))));
-    for n in (1..14).rev() {
-        let t = unround(key(keys, n), s);
+    let round_keys = split(keys);
+    let mut s = unsub(unshift(add(round_keys[14], load(x))));
+    // A round's result goes to s by t for the reason that stands in `encrypt`.
+    for k in round_keys[1..14].iter().rev() {
+        let t = unround(*k, s);
         s = t;
     }
-    store(add(key(keys, 0), s))
+    store(add(round_keys[0], s))
 }

@@ -31,10 +31,9 @@ impl Rijndael {
     pub fn round_key(&self, n: usize) -> Option<[u8; 32]>
         ensures { MatchOption result (15 ≤ n) (λ k. (n < 15) × (k ≡ stored (key_of self.now.keys n))) }
     {
-        if n > 14 {
-            return None;
-        }
-        Some(store(cipher::key(&self.keys, n)))
+        // By `?`, not `map`: a closure there would want clauses of its own, since its result is told by none.
+        let k = cipher::split(&self.keys).get(n)?;
+        Some(store(*k))
     }
 
     // The block, encrypted.

@@ -56,6 +56,7 @@ fn next(key: &[u8; 32], i: usize, words: &Words) -> Word
     ensures { result ≡ next_of key.now i words.now }
 {
     if i < 8 {
+        // The place in the definition, words of four bytes: `as_chunks` would say the same by a list of lists.
         array::from_fn(|j| key[4 * i + j])
     } else {
         xor(words[i - 8], change(i, words[i - 1]))
@@ -67,7 +68,7 @@ fn schedule(key: &[u8; 32]) -> Words
     ensures { result ≡ schedule_of key.now }
 {
     let mut words = [[0; 4]; 120];
-    // The index stays: a word is made from words before it, and what fills an array shows none of them.
+    // The index stays: a word is made from earlier words, and `array::from_fn` does not show its closure the words made so far.
     for i in 0..120 {
         words[i] = next(key, i, &words);
     }
@@ -79,6 +80,7 @@ fn key_row(words: &Words, n: usize, r: usize) -> Row
     requires { (n < 15) × (r < 4) }
     ensures { result ≡ slice_index_or (round_key words.now n) r [] }
 {
+    // The place in the definition, eight words a round key: `as_chunks` would say the same by a list of lists.
     array::from_fn(|c| words[8 * n + c][r])
 }
 

@@ -14,7 +14,8 @@ pub type State = [Row; 4];
 // `[State; 15]` was tried: a struct that holds arrays of arrays of arrays gets no proof.
 pub type Keys = [Row; 60];
 
-// What f makes of each byte. `bytes.map(f)` was tried: forth then takes 0.76 µs a block, not 0.55.
+// What f makes of each byte. `bytes.map(f)` was tried on a copy without contracts: forth takes 0.76 µs a block, and 0.55
+// in this form (docs/SPEED.md).
 pub fn each_byte<const N: usize, F: Fn(u8) -> u8>(bytes: [u8; N], f: F) -> [u8; N]
     requires { F.IsAlwaysCallable f }
     ensures { EachByte (F.post f) N bytes.entry result }
@@ -27,8 +28,8 @@ pub fn each_byte<const N: usize, F: Fn(u8) -> u8>(bytes: [u8; N], f: F) -> [u8; 
     )
 }
 
-// The exclusive or, byte by byte. One function with `block::xor_blocks` would be no plainer: it would tell its result
-// by ⊕, and each step here would have to turn that into a table.
+// The exclusive or, byte by byte. One function with `block::xor_blocks` would be no plainer: that one ensures `a ⊕ b` of
+// blocks of 32 bytes, and this one the table of N bytes by which State and Schedule define rows and words.
 pub fn xor<const N: usize>(a: [u8; N], b: [u8; N]) -> [u8; N]
     ensures { result ≡ table N (λ i. bit_xor (slice_index a.entry i) (slice_index b.entry i)) }
 {
@@ -48,7 +49,8 @@ fn load_row(x: &[u8; 32], r: usize) -> Row
     array::from_fn(|c| x[4 * c + r])
 }
 
-// The state of a block, column by column.
+// The state of a block, column by column. The rows are written out here and in `each_byte_of_state`, `add` and
+// `combine`: `array::from_fn(|r| ..)` proves in all four, but forth then takes 0.62 µs a block, not 0.59.
 #[tactic(auto, unfolding(crate::specs::State::load))]
 pub fn load(x: [u8; 32]) -> State
     ensures { result ≡ loaded x }
@@ -68,7 +70,7 @@ pub fn store(s: State) -> [u8; 32]
     array::from_fn(|i| s[i % 4][i / 4])
 }
 
-// What f makes of each byte of a state.
+// What f makes of each byte of a state. The rows are written out for the time of `from_fn`: see `load`.
 fn each_byte_of_state<F: Fn(u8) -> u8 + Copy>(s: State, f: F) -> State
     requires { F.IsAlwaysCallable f }
     ensures { EachByteOfState (F.post f) s result }
@@ -93,7 +95,8 @@ pub fn unsub(s: State) -> State
     each_byte_of_state(s, |b| restore(b))
 }
 
-// The bytes moved left by n places. `rotate_left` was tried: forth then takes 2.1 µs a block, not 0.55.
+// The bytes moved left by n places. `rotate_left` was tried on a copy without contracts: forth takes 2.1 µs a block, and
+// 0.55 in this form (docs/SPEED.md).
 pub fn left<const N: usize>(bytes: [u8; N], n: usize) -> [u8; N]
     requires { N + n < 2 ^ 64 }
     ensures { result ≡ table N (λ i. slice_index bytes.entry ((i + n) % N)) }
@@ -106,6 +109,8 @@ pub fn left<const N: usize>(bytes: [u8; N], n: usize) -> [u8; N]
     )
 }
 
+// Each row moved left by its places. One function with `unshift` over `by: [u8; 4]` was tried, and proves, but forth then
+// takes 0.78 µs a block, not 0.59.
 #[tactic(auto, unfolding(crate::specs::State::shift))]
 pub fn shift(s: State) -> State
     ensures { result ≡ shifted s }
@@ -113,6 +118,7 @@ pub fn shift(s: State) -> State
     [left(s[0], 0), left(s[1], 1), left(s[2], 3), left(s[3], 4)]
 }
 
+// Undoes `shift`, beside which stands why it is a function of its own.
 #[tactic(auto, unfolding(crate::specs::State::unshift))]
 pub fn unshift(s: State) -> State
     ensures { result ≡ unshifted s }
@@ -120,7 +126,7 @@ pub fn unshift(s: State) -> State
     [left(s[0], 8), left(s[1], 7), left(s[2], 5), left(s[3], 4)]
 }
 
-// Adds the round key k.
+// Adds the round key k. The rows are written out for the time of `from_fn`: see `load`.
 #[tactic(auto, unfolding(crate::specs::State::add))]
 pub fn add(k: State, s: State) -> State
     ensures { result ≡ added k s }
@@ -146,7 +152,7 @@ fn sum_rows(a: Row, b: Row, c: Row, d: Row) -> Row
 }
 
 // The multiples a, b, c and d of a state by the first row of a matrix, added up along the matrix:
-// each next row of it is moved one place right.
+// each next row of it is moved one place right. The rows are written out for the time of `from_fn`: see `load`.
 fn combine(a: State, b: State, c: State, d: State) -> State
     ensures { result ≡ state_of (λ r k. sum 4 (λ j. at (slice_index_or (a ∷ b ∷ c ∷ d ∷ []) j []) ((r + j) % 4) k)) }
 {

@@ -7,21 +7,21 @@ use thiserror::Error;
 #[derive(Clone, Copy, Debug, Error)]
 pub enum Expected {
     // a word that begins a line
-    #[error("key, layers, op, opc, constants, sizes, network, card, challenge, receive, confirm, resync, lapse or trace")]
+    #[error("expected key, layers, op, opc, constants, sizes, network, card, challenge, receive, confirm, resync, lapse or trace")]
     Command,
     // only fields that the command has, each once
-    #[error("fields of this command as name=value, each once")]
+    #[error("expected fields of this command as name=value, each once")]
     Fields,
     // a field of this name
-    #[error("the field {0}=")]
+    #[error("expected the field {0}=")]
     Field(&'static str),
     // hexadecimal digits in the field of this name
-    #[error("hexadecimal digits, two to a byte, in {0}=")]
+    #[error("expected hexadecimal digits, two to a byte, in {0}=")]
     Bytes(&'static str),
     // a number in the field of this name
-    #[error("a number in {0}=")]
+    #[error("expected a number in {0}=")]
     Number(&'static str),
-    #[error("more memory")]
+    #[error("expected more memory")]
     Memory(#[from(alloc)] AllocError),
 }
 
@@ -81,10 +81,14 @@ impl<'a> Fields<'a> {
         self.optional(name).ok_or(Expected::Field(name))
     }
 
+    // The bytes that a value spells in the field of this name.
+    fn spelled(self, name: &'static str, value: &str) -> Result<Vec<u8>, Expected> {
+        spelled_bytes(self.heap, value.as_bytes())?.ok_or(Expected::Bytes(name))
+    }
+
     // The bytes of a field.
     pub fn bytes(self, name: &'static str) -> Result<Vec<u8>, Expected> {
-        let value = self.required(name)?;
-        spelled_bytes(self.heap, value.as_bytes())?.ok_or(Expected::Bytes(name))
+        self.spelled(name, self.required(name)?)
     }
 
     // The bytes of the only field that a line may have.
@@ -96,17 +100,30 @@ impl<'a> Fields<'a> {
     // The bytes of a field, or none where the field is absent.
     pub fn bytes_or_none(self, name: &'static str) -> Result<Vec<u8>, Expected> {
         match self.optional(name) {
-            Some(_) => self.bytes(name),
+            Some(value) => self.spelled(name, value),
             None => Ok(Vec::new(self.heap)),
         }
     }
 
     // The bytes of a field, or the word last.
     pub fn source(self, name: &'static str) -> Result<Source, Expected> {
-        match self.optional(name) {
-            Some("last") => Ok(Source::Last),
-            _ => self.bytes(name).map(Source::Given),
+        match self.required(name)? {
+            "last" => Ok(Source::Last),
+            value => self.spelled(name, value).map(Source::Given),
         }
+    }
+
+    // What the value of a field names: one of these.
+    pub fn one_of<T: Copy>(
+        self,
+        name: &'static str,
+        named: &[(&'static str, T)],
+    ) -> Result<T, Expected> {
+        let value = self.required(name)?;
+        named
+            .iter()
+            .find_map(|(word, what)| (value == *word).then_some(*what))
+            .ok_or(Expected::Field(name))
     }
 
     // The number of a field.

@@ -8,5 +8,5 @@ mod reading;
 
 pub use digits::spelled_bytes;
 pub use fields::Expected;
-pub use orders::{Layers, Order, Setting, Source};
+pub use orders::{Base, Layers, Operator, Order, Setting, Source};
 pub use reading::{Fault, parse};

@@ -17,14 +17,25 @@ pub struct Layers {
     pub second_key: Vec<u8>,
 }
 
+// The kernel of both ends: a Rijndael key, or layers by their masks and keys.
+#[derive(Drop)]
+pub enum Base {
+    Key(Vec<u8>),
+    Layers(Layers),
+}
+
+// OPc, or the OP and the name of the algorithm that it is derived from.
+#[derive(Drop)]
+pub enum Operator {
+    Opc(Vec<u8>),
+    Op { op: Vec<u8>, name: String },
+}
+
 // A line that sets up the pair.
 #[derive(Drop)]
 pub enum Setting {
-    Key(Vec<u8>),
-    Layers(Layers),
-    // OP, and the name of the algorithm
-    Op { op: Vec<u8>, name: String },
-    Opc(Vec<u8>),
+    Kernel(Base),
+    Operator(Operator),
     Constants(Vec<u8>),
     Sizes(Sizes),
     NetworkNumber(Vec<u8>),

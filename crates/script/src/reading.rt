@@ -1,11 +1,11 @@
 ghost use Rattle.std.specs.Prelude.{◌≤◌, IfErr};
 
 use super::fields::{Expected, Fields};
-use super::orders::{Layers, Order, Setting, Source};
+use super::orders::{Base, Layers, Operator, Order, Setting, Source};
 use aka::{ResyncMask, Sizes};
 use driver::{End, Step};
-use std::alloc::{AllocError, Global};
-use thiserror::Error;
+use published::AtLine;
+use std::alloc::Global;
 
 // Lengths of buffers where a step names none.
 const ROOM: usize = 256;
@@ -15,21 +15,17 @@ const AUTS_ROOM: usize = 64;
 const SCRATCH: usize = 96;
 
 // A line that cannot be read: its number from 1, and what was expected of it.
-#[derive(Clone, Copy, Debug, Error)]
-#[error("line {line}: expected {expected}")]
-pub struct Fault {
-    pub line: usize,
-    pub expected: Expected,
-}
+pub type Fault = AtLine<Expected>;
 
-// What masks the number in an AUTS: mask=f5* or mask=f5**.
-fn mask(fields: Fields<'_>) -> Result<ResyncMask, Expected> {
-    match fields.optional("mask") {
-        Some("f5*") => Ok(ResyncMask::F5Star),
-        Some("f5**") => Ok(ResyncMask::F5StarStar),
-        _ => Err(Expected::Field("mask")),
-    }
-}
+// What masks the number in an AUTS, by the value of its field.
+// Here and at ENDS no FromStr in the crates aka and driver: these words are those of scripts.
+const MASKS: [(&str, ResyncMask); 2] = [
+    ("f5*", ResyncMask::F5Star),
+    ("f5**", ResyncMask::F5StarStar),
+];
+
+// The ends, by the value of their field.
+const ENDS: [(&str, End); 2] = [("network", End::Network), ("card", End::Card)];
 
 fn sizes(fields: Fields<'_>) -> Result<Sizes, Expected> {
     fields.only(&["rand", "sqn", "ak", "mac", "res", "ck", "ik", "mask"])?;
@@ -42,7 +38,7 @@ fn sizes(fields: Fields<'_>) -> Result<Sizes, Expected> {
         res: fields.count("res")?,
         ck: fields.count("ck")?,
         ik: fields.count("ik")?,
-        resync: mask(fields)?,
+        resync: fields.one_of("mask", &MASKS)?,
     })
 }
 
@@ -57,10 +53,10 @@ fn layers(fields: Fields<'_>) -> Result<Layers, Expected> {
 }
 
 // OP, and the name of the algorithm: the field name= as it stands, or MILENAGE2.0.
-fn op(fields: Fields<'_>) -> Result<Setting, Expected> {
+fn op(fields: Fields<'_>) -> Result<Operator, Expected> {
     fields.only(&["op", "name"])?;
     let name = fields.optional("name").unwrap_or("MILENAGE2.0");
-    Ok(Setting::Op {
+    Ok(Operator::Op {
         op: fields.bytes("op")?,
         name: String::from_str(fields.heap, name)?,
     })
@@ -69,11 +65,11 @@ fn op(fields: Fields<'_>) -> Result<Setting, Expected> {
 // A line that sets up the pair, if its first word is such.
 fn setting(word: &str, fields: Fields<'_>) -> Result<Option<Setting>, Expected> {
     let found = match word {
-        "layers" => Setting::Layers(layers(fields)?),
+        "layers" => Setting::Kernel(Base::Layers(layers(fields)?)),
         "sizes" => Setting::Sizes(sizes(fields)?),
-        "op" => op(fields)?,
-        "key" => Setting::Key(fields.only_bytes("key")?),
-        "opc" => Setting::Opc(fields.only_bytes("opc")?),
+        "op" => Setting::Operator(op(fields)?),
+        "key" => Setting::Kernel(Base::Key(fields.only_bytes("key")?)),
+        "opc" => Setting::Operator(Operator::Opc(fields.only_bytes("opc")?)),
         "constants" => Setting::Constants(fields.only_bytes("constants")?),
         "network" => Setting::NetworkNumber(fields.only_bytes("number")?),
         "card" => Setting::CardNumber(fields.only_bytes("number")?),
@@ -103,19 +99,10 @@ fn receive(fields: Fields<'_>) -> Result<Step<Source>, Expected> {
     })
 }
 
-// At which end a trace is made: end=network or end=card.
-fn end(fields: Fields<'_>) -> Result<End, Expected> {
-    match fields.optional("end") {
-        Some("network") => Ok(End::Network),
-        Some("card") => Ok(End::Card),
-        _ => Err(Expected::Field("end")),
-    }
-}
-
 fn trace(fields: Fields<'_>) -> Result<Step<Source>, Expected> {
     fields.only(&["end", "index", "rand", "size", "carried", "room", "scratch"])?;
     Ok(Step::Trace {
-        end: end(fields)?,
+        end: fields.one_of("end", &ENDS)?,
         index: fields.count("index")?,
         rand: fields.source("rand")?,
         size: fields.count("size")?,
@@ -135,6 +122,7 @@ fn confirm(fields: Fields<'_>) -> Result<Step<Source>, Expected> {
 
 fn resync(fields: Fields<'_>) -> Result<Step<Source>, Expected> {
     fields.only(&["ticket", "auts", "scratch"])?;
+    // Before the ticket: where both are wrong, this fault is told.
     let scratch = fields.count_or("scratch", SCRATCH)?;
     Ok(Step::Resync {
         serial: fields.ticket()?,
@@ -183,13 +171,12 @@ pub fn parse(heap: Global, text: &str) -> Result<Vec<Order>, Fault>
     ensures { IfErr result (λ fault. 1 ≤ fault.line) }
 {
     let mut orders = Vec::new(heap);
+    // Not (1usize..).zip(text.lines()) as in the crate cases: it was tried, and that a fault's line is 1 or more stayed open.
     for (i, words) in text.lines().enumerate() {
         let line = i.saturating_add(1);
-        let at = |expected| Fault { line, expected };
+        let at = |fault| Fault { line, fault };
         if let Some(found) = order(heap, words).map_err(at)? {
-            orders
-                .push(found)
-                .map_err(|_| at(Expected::Memory(AllocError)))?;
+            orders.push(found).map_err(|e| at(Expected::from(e)))?;
         }
     }
     Ok(orders)

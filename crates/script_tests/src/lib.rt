@@ -24,9 +24,9 @@ mod tests {
         lapse ticket=3\n\
         trace end=card index=7 rand=00 size=6 carried=0000\n";
 
-    // The number of the line that cannot be read, or 0.
-    fn bad_line(read: Result<Vec<Order>, Fault>) -> usize {
-        read.err().map_or(0, |fault| fault.line)
+    // The number of the line that cannot be read, if there is one.
+    fn bad_line(read: Result<Vec<Order>, Fault>) -> Option<usize> {
+        read.err().map(|fault| fault.line)
     }
 
     #[test]
@@ -61,7 +61,7 @@ mod tests {
             ("challenge rand=00\n", 1),
             ("trace end=both index=0 rand=00 size=8\n", 1),
         ] {
-            assert_eq!(rt; bad_line(parse(rt.alloc(), text)), line);
+            assert_eq!(rt; bad_line(parse(rt.alloc(), text)), Some(line));
         }
     }
 

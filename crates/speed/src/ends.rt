@@ -15,8 +15,15 @@ const SIZES: Sizes = Sizes {
     ..Sizes::SMALLEST
 };
 
-// RAND, XRES, CK, IK and AUTN at these sizes.
+// RAND, XRES, CK, IK and AUTN at these sizes, which are the smallest but for a RES of 8 bytes. A vector's places stand
+// here and in the other programs that cut vectors: programs share no crate of their own.
 type Vector = [u8; 72];
+
+// Where RAND ends in a vector.
+const RAND_END: usize = 16;
+
+// Where AUTN begins in a vector.
+const AUTN: usize = 56;
 
 // RES, CK and IK.
 type Answer = [u8; 40];
@@ -44,8 +51,8 @@ fn challenge(network: &mut NetworkEnd<Rijndael>, vector: &mut Vector) -> anyhow:
 fn receive(card: &mut CardEnd<Rijndael>, vector: &Vector) -> anyhow::Result<Answer> {
     let mut answer = [0; 40];
     card.receive(
-        &vector[0..16],
-        &vector[56..72],
+        &vector[..RAND_END],
+        &vector[AUTN..],
         &mut answer,
         &mut [0; 14],
         &mut [0; 96],

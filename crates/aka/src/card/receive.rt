@@ -10,7 +10,7 @@ use super::CardEnd;
 use crate::sizes::Admitted;
 use block::{Refusal, Wipe};
 use kernel::Kernel;
-use milenage::split_scratch;
+use milenage::{Work, split_scratch};
 
 impl<K: Kernel> CardEnd<K> {
     // Takes a challenge: writes RES ‖ CK ‖ IK where its number exceeds the card's, which it becomes; otherwise refuses it as behind, and writes the AUTS of the card's number.
@@ -28,20 +28,15 @@ impl<K: Kernel> CardEnd<K> {
     {
         let guard = Wipe(scratch);
         let admitted = self.core.admitted;
-        may_receive(
+        let (temp, work) = may_receive(
             admitted,
             rand.len(),
             autn.len(),
             answer.len(),
             auts.len(),
-            guard.0.len(),
+            guard.0,
         )?;
-        let Some((temp, work)) = split_scratch(guard.0) else {
-            unreachable!()
-        };
-        let Some((functions, number)) = self.core.hear(rand, autn, temp, work) else {
-            return Err(Refusal::Mac);
-        };
+        let (functions, number) = self.core.hear(rand, autn, temp, work).ok_or(Refusal::Mac)?;
         if number > self.number {
             functions.write_answers(answer, work);
             self.number = number;
@@ -53,25 +48,26 @@ impl<K: Kernel> CardEnd<K> {
     }
 }
 
-// Whether a challenge can be looked at, by the lengths of what is passed.
+// The blocks of the scratch, if a challenge can be looked at by the lengths of what is passed.
 fn may_receive(
     admitted: Admitted,
     rand: usize,
     autn: usize,
     answer: usize,
     auts: usize,
-    scratch: usize,
-) -> Result<(), Refusal>
-    ensures { MayReceive admitted.sizes rand autn answer auts scratch result }
+    scratch: &mut [u8],
+) -> Result<(&mut [u8; 32], &mut Work), Refusal>
+    ensures { MayReceive admitted.sizes rand autn answer auts (length scratch.old) result }
 {
     if rand != admitted.sizes.rand {
         return Err(Refusal::Rand);
     }
-    if answer < admitted.answers_size() || auts < admitted.auts_size() || scratch < 96 {
+    if answer < admitted.answers_size() || auts < admitted.auts_size() {
         return Err(Refusal::Buffer);
     }
+    let blocks = split_scratch(scratch).ok_or(Refusal::Buffer)?;
     if autn != admitted.autn_size() {
         return Err(Refusal::Message);
     }
-    Ok(())
+    Ok(blocks)
 }

@@ -38,6 +38,7 @@ fn reply_part<'a>(
 }
 
 // The first n bytes of a buffer, unless it is too short.
+// A test and a slice, not `buffer.get(..n).ok_or(..)`: that was tried, but the contract of `get` tells the bytes of a part and not where they lie, which `Front` wants.
 fn front<'a>(buffer: &'a [u8], n: usize) -> Result<&'a [u8], Refusal>
     ensures { Answers (short_ground n buffer.now) result (λ p. Front n buffer.entry p) }
 {

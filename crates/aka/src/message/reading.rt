@@ -30,6 +30,7 @@ pub(crate) fn split_autn<'a>(admitted: Admitted, bytes: &'a [u8]) -> ChallengeTo
 }
 
 // The parts of an AUTS: the masked number and MAC-S.
+// The function of an AUTN, `split_autn`, is not shared, since an AUTS has no AMF: one function with a part that may be absent would be no plainer.
 pub(crate) fn split_auts<'a>(admitted: Admitted, bytes: &'a [u8]) -> ResyncToken<'a>
     requires { length bytes.now ≡ auts_size admitted.sizes }
     ensures { AutsParts admitted.sizes bytes.entry result }

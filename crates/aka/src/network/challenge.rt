@@ -12,7 +12,7 @@ use crate::sizes::Admitted;
 use crate::ticket::Ticket;
 use block::{Refusal, Wipe, fill_block};
 use kernel::Kernel;
-use milenage::split_scratch;
+use milenage::{Work, split_scratch};
 
 impl<K: Kernel> NetworkEnd<K> {
     // Gives a challenge with the next number: writes its vector, and answers the ticket that names it. An open challenge ends.
@@ -29,17 +29,14 @@ impl<K: Kernel> NetworkEnd<K> {
     {
         let guard = Wipe(scratch);
         let admitted = self.core.admitted;
-        let amf = may_challenge(
+        let (amf, (temp, work)) = may_challenge(
             admitted,
             self.book,
             rand.len(),
             amf,
             out.len(),
-            guard.0.len(),
+            guard.0,
         )?;
-        let Some((temp, work)) = split_scratch(guard.0) else {
-            unreachable!()
-        };
         let number = self.book.number + 1;
         let given = self.book.given + 1;
         let xres = self
@@ -57,29 +54,28 @@ impl<K: Kernel> NetworkEnd<K> {
     }
 }
 
-// The AMF of a challenge, if it can be given.
-fn may_challenge(
+// The AMF of a challenge and the blocks of the scratch, if it can be given.
+fn may_challenge<'s>(
     admitted: Admitted,
     book: Book,
     rand: usize,
     amf: &[u8],
     out: usize,
-    scratch: usize,
-) -> Result<[u8; 2], Refusal>
+    scratch: &'s mut [u8],
+) -> Result<([u8; 2], (&'s mut [u8; 32], &'s mut Work)), Refusal>
     requires { book.number < 256 ^ admitted.sizes.sqn }
-    ensures { MayChallenge admitted.sizes book.number book.given rand amf.now out scratch result }
+    ensures { MayChallenge admitted.sizes book.number book.given rand amf.now out (length scratch.old) result }
 {
     if rand != admitted.sizes.rand {
         return Err(Refusal::Rand);
     }
-    let Ok(amf) = <[u8; 2]>::try_from(amf) else {
-        return Err(Refusal::Amf);
-    };
-    if out < admitted.vector_size() || scratch < 96 {
+    let amf = <[u8; 2]>::try_from(amf).map_err(|_| Refusal::Amf)?;
+    if out < admitted.vector_size() {
         return Err(Refusal::Buffer);
     }
+    let blocks = split_scratch(scratch).ok_or(Refusal::Buffer)?;
     if is_largest(book.number, admitted.sizes.sqn) || book.given == u32::MAX {
         return Err(Refusal::Spent);
     }
-    Ok(amf)
+    Ok((amf, blocks))
 }

@@ -1,51 +1,14 @@
-ghost use Rattle.aka.specs.Views.{network_setup};
-
 use super::NetworkEnd;
-use crate::message;
-use crate::message::Message;
-use crate::pair_end::PairEnd;
-use crate::sizes::Sizes;
-use block::Refusal;
+use crate::pair_end::HoldsCore;
+use crate::shared::Core;
 use kernel::Kernel;
 
-impl<K: Kernel> PairEnd for NetworkEnd<K> {
-    ghost setup = { network_setup K.Kernel.forth };
+impl<K: Kernel> HoldsCore for NetworkEnd<K> {
+    type K = K;
 
-    ghost forth_block = { λ e. K.Kernel.forth_block e.core.kernel };
+    ghost core_of = { λ e. e.core };
 
-    fn is_sound(&self) {
-        self.core.is_sound();
-    }
-
-    fn sizes(&self) -> Sizes {
-        self.core.admitted.sizes
-    }
-
-    fn vector_size(&self) -> usize {
-        self.core.admitted.vector_size()
-    }
-
-    fn answers_size(&self) -> usize {
-        self.core.admitted.answers_size()
-    }
-
-    fn auts_size(&self) -> usize {
-        self.core.admitted.auts_size()
-    }
-
-    fn read_message<'a>(&self, bytes: &'a [u8]) -> Result<Message<'a>, Refusal> {
-        message::read_message(self.core.admitted, bytes)
-    }
-
-    fn trace(
-        &self,
-        index: usize,
-        rand: &[u8],
-        size: usize,
-        carried: &[u8],
-        out: &mut [u8],
-        scratch: &mut [u8],
-    ) -> Result<(), Refusal> {
-        self.core.trace(index, rand, size, carried, out, scratch)
+    fn core(&self) -> &Core<K> {
+        &self.core
     }
 }

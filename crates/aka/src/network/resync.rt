@@ -1,4 +1,5 @@
-ghost use Rattle.std.specs.Prelude.{◌≡◌, not, [], length};
+ghost use Rattle.std.specs.Prelude.{◌≡◌, not, [], length, IfErr};
+ghost use Rattle.std.specs.Result.{is_ok};
 ghost use Rattle.block.specs.Bytes.{zeros};
 ghost use Rattle.aka.specs.States.{Shows};
 ghost use Rattle.aka.specs.Calls.{does_resync};
@@ -11,7 +12,7 @@ use crate::sizes::Admitted;
 use crate::ticket::Ticket;
 use block::{Refusal, Wipe};
 use kernel::Kernel;
-use milenage::split_scratch;
+use milenage::{Work, split_scratch};
 
 impl<K: Kernel> NetworkEnd<K> {
     // Takes the AUTS of the open challenge, which ends: where it tells the larger number, the end's number is raised to it.
@@ -27,16 +28,11 @@ impl<K: Kernel> NetworkEnd<K> {
     {
         let guard = Wipe(scratch);
         let rand = self.book.rand;
-        let open = self.close(ticket.spend()).is_ok();
+        let closed = self.close(ticket.spend());
         let admitted = self.core.admitted;
-        may_resync(admitted, open, auts.len(), guard.0.len())?;
-        let Some((temp, work)) = split_scratch(guard.0) else {
-            unreachable!()
-        };
+        let (temp, work) = may_resync(admitted, closed, auts.len(), guard.0)?;
         let functions = self.core.at(&rand[..admitted.sizes.rand], temp, work);
-        let Some(number) = functions.check_auts(auts, work) else {
-            return Err(Refusal::Mac);
-        };
+        let number = functions.check_auts(auts, work).ok_or(Refusal::Mac)?;
         if number > self.book.number {
             self.book.number = number;
             Ok(Resynced::Raised)
@@ -46,18 +42,20 @@ impl<K: Kernel> NetworkEnd<K> {
     }
 }
 
-// Whether an AUTS can be looked at, by the lengths of what is passed.
-fn may_resync(admitted: Admitted, open: bool, auts: usize, scratch: usize) -> Result<(), Refusal>
-    ensures { MayResync admitted.sizes (not «open») auts scratch result }
+// The blocks of the scratch, if an AUTS can be looked at by what closing the challenge answered and the lengths of what is passed.
+fn may_resync(
+    admitted: Admitted,
+    closed: Result<(), Refusal>,
+    auts: usize,
+    scratch: &mut [u8],
+) -> Result<(&mut [u8; 32], &mut Work), Refusal>
+    requires { IfErr closed (λ e. e ≡ Refusal.Stale) }
+    ensures { MayResync admitted.sizes (not (is_ok closed)) auts (length scratch.old) result }
 {
-    if scratch < 96 {
-        return Err(Refusal::Buffer);
-    }
-    if !open {
-        return Err(Refusal::Stale);
-    }
+    let blocks = split_scratch(scratch).ok_or(Refusal::Buffer)?;
+    closed?;
     if auts != admitted.auts_size() {
         return Err(Refusal::Message);
     }
-    Ok(())
+    Ok(blocks)
 }

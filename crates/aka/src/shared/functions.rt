@@ -1,18 +1,15 @@
-ghost use Rattle.std.specs.Prelude.{◌≡◌, ◌+◌, ◌<◌, ◌≤◌, ◌++◌, length, take};
-ghost use Rattle.milenage.specs.Functions.{index_of};
+ghost use Rattle.std.specs.Prelude.{◌≡◌, take};
 ghost use Rattle.milenage.specs.Blocks.{temp as temp_of};
 ghost use Rattle.milenage.specs.Views.{keyed_with};
-ghost use Rattle.milenage.specs.Grounds.{question_ground};
 
-use super::{Core, Keys};
-use crate::sizes::{Admitted, ResyncMask};
-use block::fill_block;
+use crate::sizes::Admitted;
 use kernel::Kernel;
-use milenage::{Computation, Function, Question, Work};
+use milenage::Computation;
 
 mod asked;
 
 // The functions of an end at one RAND, of which `rand` is the block filled with zeros.
+// The blocks of a kernel run, `work`, are lent to each call and not held here: held, every question would want `&mut self`.
 #[derive(Drop)]
 pub(crate) struct Functions<'k, 't, K: Kernel> {
     computation: Computation<'k, 't, K>,

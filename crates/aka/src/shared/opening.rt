@@ -13,6 +13,7 @@ use kernel::Kernel;
 
 impl<K: Kernel + Drop> Core<K> {
     // What an end is opened with, and the number that it starts at.
+    // The arguments stand one by one, as the rules of opening name them; a struct of them would be made at each call only to be taken apart here.
     pub fn open(
         kernel: K,
         opc: &[u8],
@@ -22,12 +23,8 @@ impl<K: Kernel + Drop> Core<K> {
     ) -> Result<(Core<K>, u128), Refusal>
         ensures { Answers (open_ground opc.now constants.now sizes number.now) result (λ p. (setup_of K.Kernel.forth p.0 ≡ handed_in (K.Kernel.forth kernel) opc.now constants.now sizes) × (p.1 < 256 ^ p.0.admitted.sizes.sqn) × (bytes_of sizes.sqn p.1 ≡ number.now)) }
     {
-        let Ok(opc) = <[u8; 32]>::try_from(opc) else {
-            return Err(Refusal::OperatorField);
-        };
-        let Ok(constants) = <[u8; 128]>::try_from(constants) else {
-            return Err(Refusal::Constants);
-        };
+        let opc = <[u8; 32]>::try_from(opc).map_err(|_| Refusal::OperatorField)?;
+        let constants = <[u8; 128]>::try_from(constants).map_err(|_| Refusal::Constants)?;
         let admitted = sizes.admit()?;
         if number.len() != sizes.sqn {
             return Err(Refusal::Number);

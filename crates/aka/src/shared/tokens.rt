@@ -7,7 +7,7 @@ ghost use Rattle.aka.specs.Parts.{right_mac_a, TellsNumber, TellsAutn, TellsAuts
 ghost use Rattle.aka.specs.Views.{setup_of, setup_at, rand_at};
 
 use super::{Core, Functions};
-use crate::bytes::same;
+use crate::bytes::is_front;
 use crate::message::{split_autn, split_auts};
 use crate::numbers::{number_block, read_number};
 use crate::sizes::Admitted;
@@ -17,6 +17,7 @@ use milenage::{Function, Work};
 
 impl<K: Kernel> Core<K> {
     // The functions at the RAND of a challenge, and the number that its AUTN tells, if its MAC-A is right.
+    // None where the MAC is wrong: which refusal that is, the call says.
     pub(crate) fn hear<'k, 't>(
         &'k self,
         rand: &[u8],
@@ -36,20 +37,23 @@ impl<K: Kernel> Core<K> {
 
 impl<K: Kernel> Functions<'_, '_, K> {
     // The number that an AUTN tells, if its MAC-A is right.
+    // None where the MAC is wrong: which refusal that is, the call says.
+    // The length of a received AUTN stands in the contracts of three functions inside the crate, `hear`, this and `split_autn`: a type for it would hold the size set a second time.
+    // Not a part of `hear`: there the functions would be lent twice, which gets no proof.
     fn check_autn(&self, autn: &[u8], work: &mut Work) -> Option<u128>
         requires { length autn.now ≡ autn_size self.now.admitted.sizes }
         ensures { TellsAutn (setup_at K.Kernel.forth self.now) (rand_at self.now) autn.now result }
     {
         let token = split_autn(self.admitted, autn);
-        let Ok(amf) = <[u8; 2]>::try_from(token.amf) else {
-            unreachable!()
-        };
+        // A token's parts are slices of the received bytes, as a caller reads them, so the AMF too is a slice.
+        let amf = <[u8; 2]>::try_from(token.amf).unwrap();
         let sqn = unmask(token.masked, self.ak(work));
         let mac = self.mac(Function::F1, amf, sqn, work);
         told(self.admitted, sqn, mac, token.mac)
     }
 
     // The number that an AUTS tells, if its MAC-S is right.
+    // None where the MAC is wrong: which refusal that is, the call says.
     pub(crate) fn check_auts(&self, auts: &[u8], work: &mut Work) -> Option<u128>
         requires { length auts.now ≡ auts_size self.now.admitted.sizes }
         ensures { TellsAuts (setup_at K.Kernel.forth self.now) (rand_at self.now) auts.now result }
@@ -69,12 +73,8 @@ impl<K: Kernel> Functions<'_, '_, K> {
         let sqn = number_block(number, s.sqn);
         let mac = self.mac_s(sqn, work);
         let ak = self.ak_star(&mac[..s.mac], work);
-        put_auts(
-            self.admitted,
-            xor_blocks(sqn, ak),
-            mac,
-            &mut out[..s.sqn + s.mac],
-        );
+        let n = self.admitted.auts_size();
+        put_auts(self.admitted, xor_blocks(sqn, ak), mac, &mut out[..n]);
     }
 }
 
@@ -91,7 +91,7 @@ fn told(admitted: Admitted, sqn: [u8; 32], mac: [u8; 32], received: &[u8]) -> Op
     ensures { TellsNumber (bytes_eq (take admitted.sizes.mac mac) received.now) admitted.sizes.sqn (take admitted.sizes.sqn sqn) result }
 {
     let s = admitted.sizes;
-    if same(&mac[..s.mac], received) {
+    if is_front(received, mac, s.mac) {
         Some(read_number(&sqn[..s.sqn]))
     } else {
         None
@@ -99,6 +99,7 @@ fn told(admitted: Admitted, sqn: [u8; 32], mac: [u8; 32], received: &[u8]) -> Op
 }
 
 // Writes the masked number ‖ MAC-S, cut from their blocks.
+// The function of an AUTN, `put_autn`, is not shared, since an AUTS has no AMF: one function with a part that may be absent would be no plainer.
 fn put_auts(admitted: Admitted, masked: [u8; 32], mac: [u8; 32], out: &mut [u8])
     requires { length out.old ≡ auts_size admitted.sizes }
     ensures { out.new ≡ take admitted.sizes.sqn masked ++ take admitted.sizes.mac mac }

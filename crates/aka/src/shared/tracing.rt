@@ -11,6 +11,7 @@ use kernel::Kernel;
 
 impl<K: Kernel> Core<K> {
     // Writes the six blocks of a computation.
+    // What is asked stands argument by argument, as the rules of the call name it: the reason is at `PairEnd::trace`.
     pub fn trace(
         &self,
         index: usize,

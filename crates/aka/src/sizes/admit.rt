@@ -37,6 +37,7 @@ impl Admitted {
 
 impl Sizes {
     // The size set, if an end may have it.
+    // A method and not `TryFrom`: an end alone admits its sizes, which `pub(crate)` says, and an impl of a trait has no such word.
     pub(crate) fn admit(self) -> Result<Admitted, Refusal>
         ensures { Admits self result }
     {

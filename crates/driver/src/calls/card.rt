@@ -1,6 +1,5 @@
-ghost use Rattle.std.specs.Prelude.{◌≡◌, length, vec_len, MatchResult, ◌≢◌};
+ghost use Rattle.std.specs.Prelude.{◌≡◌, length, vec_len, Err, MatchResult, ◌≢◌};
 ghost use Rattle.block.specs.Bytes.{AreBytes};
-ghost use Rattle.block.specs.Refusals.{number};
 ghost use Rattle.aka.specs.Calls.{does_receive};
 ghost use Rattle.aka.specs.Views.{card_setup, card_number};
 ghost use Rattle.driver.specs.Seen.{Made};
@@ -8,7 +7,7 @@ ghost use Rattle.driver.specs.Yields.{yield_of};
 ghost use Rattle.driver.specs.Called.{Wrote};
 ghost use Rattle.driver.specs.Runs.{AtCard};
 
-use super::zeroed;
+use super::{keep, zeroed};
 use crate::run::Run;
 use crate::types::{Answer, Outcome};
 use aka::{CardEnd, PairEnd};
@@ -17,7 +16,7 @@ use kernel::Kernel;
 use std::alloc::AllocError;
 
 impl<K, L: Kernel> Run<'_, '_, '_, '_, K, L> {
-    // Has the card receive a challenge.
+    // Has the card receive a challenge. The parameters are those of its own call, with lengths for the buffers.
     pub fn receive(
         &mut self,
         rand: &[u8],
@@ -64,27 +63,21 @@ fn receive_with<K: Kernel>(
     card.is_sound();
     let answers = card.answers_size();
     let auts = card.auts_size();
-    match card.receive(rand, autn, wrote, wrote_auts, wiped) {
-        Ok(()) => {
-            wrote.truncate(answers);
-            wrote_auts.clear();
-            Ok(Outcome::Accepted)
-        }
-        Err(e) => {
-            wrote.clear();
-            wrote_auts.truncate(auts_written(e, auts));
-            Err(e)
-        }
-    }
+    let yielded = card
+        .receive(rand, autn, wrote, wrote_auts, wiped)
+        .map(|()| Outcome::Accepted);
+    keep(wrote, answers, &yielded);
+    wrote_auts.truncate(auts_written(&yielded, auts));
+    yielded
 }
 
-// How much of an AUTS of some length comes with a refusal.
-fn auts_written(e: Refusal, auts: usize) -> usize
-    ensures behind { number e ≡ 17 → result ≡ auts }
-    ensures other { (number e ≢ 17) → result ≡ 0 }
+// How much of an AUTS of some length comes with what a receive yielded.
+fn auts_written(yielded: &Result<Outcome, Refusal>, auts: usize) -> usize
+    ensures behind { yielded.now ≡ Err Refusal.Behind → result ≡ auts }
+    ensures other { (yielded.now ≢ Err Refusal.Behind) → result ≡ 0 }
 {
-    match e {
-        Refusal::Behind => auts,
+    match yielded {
+        Err(Refusal::Behind) => auts,
         _ => 0,
     }
 }

@@ -5,7 +5,7 @@ ghost use Rattle.driver.specs.Seen.{Made};
 ghost use Rattle.driver.specs.Yields.{yield_of};
 ghost use Rattle.driver.specs.Called.{Wrote};
 
-use super::zeroed;
+use super::{keep, zeroed};
 use crate::types::{Answer, Outcome};
 use aka::PairEnd;
 use block::Refusal;
@@ -51,14 +51,9 @@ fn trace_with<E: PairEnd>(
     ensures wrote { Wrote (does_trace (E.setup end.now) index rand.now size carried.now (vec_len wrote.old) (length wiped.old)) (yield_of result) wrote.new.items [] tt }
 {
     end.is_sound();
-    match end.trace(index, rand, size, carried, wrote, wiped) {
-        Ok(()) => {
-            wrote.truncate(TRACE);
-            Ok(Outcome::Traced)
-        }
-        Err(e) => {
-            wrote.clear();
-            Err(e)
-        }
-    }
+    let yielded = end
+        .trace(index, rand, size, carried, wrote, wiped)
+        .map(|()| Outcome::Traced);
+    keep(wrote, TRACE, &yielded);
+    yielded
 }

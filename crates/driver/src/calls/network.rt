@@ -8,7 +8,7 @@ ghost use Rattle.driver.specs.Driven.{keeping};
 ghost use Rattle.driver.specs.Called.{Wrote};
 ghost use Rattle.driver.specs.Runs.{AtNetwork, GivesTicket, MaySpendTicket, SpendsTicket};
 
-use super::zeroed;
+use super::{keep, zeroed};
 use crate::run::Run;
 use crate::tickets::take_ticket;
 use crate::types::{Answer, Outcome};
@@ -56,18 +56,17 @@ impl<K: Kernel, L> Run<'_, '_, '_, '_, K, L> {
     {
         self.network.is_sound();
         let size = self.network.vector_size();
-        match self.network.challenge(rand, amf, wrote, wiped) {
+        // a `map` was tried: its closure needs clauses of its own, with the room that `push_reserved` asks for, and is no plainer
+        let yielded = match self.network.challenge(rand, amf, wrote, wiped) {
             Ok(ticket) => {
                 let serial = ticket.serial();
                 self.tickets.push_reserved(ticket);
-                wrote.truncate(size);
                 Ok(Outcome::Issued(serial))
             }
-            Err(e) => {
-                wrote.clear();
-                Err(e)
-            }
-        }
+            Err(e) => Err(e),
+        };
+        keep(wrote, size, &yielded);
+        yielded
     }
 
     // Spends the ticket of a serial by confirm, if it is held.

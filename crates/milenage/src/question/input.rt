@@ -46,7 +46,7 @@ impl Question {
         })
     }
 
-    // IN: the constant of the index over bytes 16 to 31.
+    // IN: the constant of the function over bytes 16 to 31.
     pub fn in_block(&self, constants: &[u8; 128]) -> [u8; 32]
         ensures { result ≡ input_of constants.now self.now }
     {
@@ -69,6 +69,7 @@ fn header_of(first: u8, second: u8, carried: &[u8]) -> [u8; 32]
     header[0] = first;
     header[1] = second;
     let n = carried.len().min(30);
+    // Byte 2 on: where the standard lays what is carried.
     header[2..2 + n].copy_from_slice(&carried[0..n]);
     header
 }
@@ -78,6 +79,7 @@ fn constant(constants: &[u8; 128], function: Function) -> [u8; 32]
     ensures { result ≡ zeros 16 ++ constant_of constants.now (index_of function) }
 {
     let mut block = [0; 32];
+    // the place in the words of the definition: `as_chunks` says the same by a list of lists
     let from = 16 * function.index();
     block[16..].copy_from_slice(&constants[from..from + 16]);
     block

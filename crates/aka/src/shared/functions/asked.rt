@@ -47,10 +47,9 @@ impl<K: Kernel> Functions<'_, '_, K> {
         requires { question_ground (index_of function) self.now.admitted.sizes.rand size (length carried.now) ≡ 0 }
         ensures { take size result ≡ output_of (setup_at K.Kernel.forth self.now) (index_of function) (rand_at self.now) size carried.now }
     {
-        match Question::of(function, self.admitted.sizes.rand, size, carried) {
-            Ok(question) => self.computation.ask(question, work),
-            Err(_) => unreachable!(),
-        }
+        let n = self.admitted.sizes.rand;
+        let question = Question::of(function, n, size, carried).unwrap();
+        self.computation.ask(question, work)
     }
 
     // RES, CK and IK: f2, f3 and f4.
@@ -112,7 +111,7 @@ impl<K: Kernel> Functions<'_, '_, K> {
     }
 }
 
-// The AMF and the number, as f1 and f1* carry them, then zeros.
+// The AMF and the number, as f1 and f1* carry them, then zeros: a block for the size that an end has, since it has no heap.
 fn carry(amf: [u8; 2], sqn: [u8; 32], n: usize) -> [u8; 32]
     requires { n ≤ 12 }
     ensures { take (2 + n) result ≡ amf ++ take n sqn }

@@ -6,5 +6,5 @@ use Rattle.milenage.proofs.opc.derive_opc.Goals as goal
 pub returns-clause-derived : goal.returns-clause-derived
 unfolding opc_of
 returns-clause-derived g c =
-    let op : c.in-Ok.op ≡ c.args.op.now = search rules in
+    let op : c.in_ok-op.op ≡ c.args.op.now = search rules in
     let z = zero_found c.args.name.now in (search rules, (cc))

@@ -10,7 +10,7 @@ returns g c =
     let s : Setup = setup_at g.K.Kernel.forth f in
     let t = c.split_autn-token.result in
     let p = c.split_autn-token.ensures in
-    let a : c.in-Ok.amf ≡ t.amf.now = search rules in
+    let a : c.unwrap-amf.result ≡ t.amf.now = search rules in
     autn_told s (rand_at f) c.args.autn.now t.amf.now t.mac.now t.masked.now c.ak.result c.unmask-sqn.result c.mac-mac.result c.told.result
     f.admitted.alike p.masked p.amf p.mac p.masked_long c.ak.ensures c.unmask-sqn.ensures
     (c.mac-mac.ensures ∙ ap (λ (x : List ℕ). f1 s (rand_at f) x (take f.admitted.sizes.sqn c.unmask-sqn.result)) a) c.told.ensures

@@ -1,4 +1,4 @@
-use Rattle.std.proofs.Common.{ℕ, ◌+◌, List, ◌∙◌, arith}
+use Rattle.std.proofs.Common.{ℕ, List, ◌∙◌, arith}
 use Rattle.block.specs.Numbers.{bytes_of}
 use Rattle.aka.specs.Setup.{Setup}
 use Rattle.aka.specs.Views.{setup_at, rand_at}
@@ -12,9 +12,8 @@ returns g c =
     let s : Setup = setup_at g.K.Kernel.forth f in
     let r : List ℕ = rand_at f in
     let n : ℕ = f.admitted.sizes.sqn in
-    let m : ℕ = f.admitted.sizes.mac in
     let mac : List ℕ = c.mac_s-mac.result in
-    laid_over (n + m) _ _ c.args.out.now
+    laid_over c.auts_size-n.result _ _ c.args.out.now
     (c.put_auts.ensures
     ∙ auts_is s r (bytes_of n c.args.number) c.number_block-sqn.result mac c.ak_star-ak.result c.xor_blocks.result c.number_block-sqn.ensures c.mac_s-mac.ensures
     c.ak_star-ak.ensures c.xor_blocks.ensures)
