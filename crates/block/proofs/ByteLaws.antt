@@ -1,5 +1,5 @@
 -- Laws of byte strings.
-use Rattle.std.proofs.Common.{◌≡◌, ℕ, zero, suc, ◌+◌, ◌-◌, ◌<◌, ◌≤◌, max, List, [], ◌∷◌, ◌++◌, length, get_or, take, drop, sym, refl, ap, ◌∙◌, ap₂, arith, lit<, length-append}
+use Rattle.std.proofs.Common.{◌≡◌, ℕ, zero, suc, ◌+◌, ◌-◌, ◌<◌, ◌≤◌, min, max, List, [], ◌∷◌, ◌++◌, length, get_or, take, drop, sym, refl, ap, ◌∙◌, ap₂, arith, lit<, length-append}
 use lib.Bits.{bit_xor, xor_assoc, xor_self, xor_zero_r, xor_lt, xor_comm}
 use Rattle.std.proofs.lemmas.List.{take_at, length-take, get_or-take, take-replicate}
 use Rattle.block.specs.Bytes.{AreBytes, IsBlock, ◌⊕◌, zeros, filled}
@@ -119,6 +119,18 @@ take_padded (suc n) m (b ∷ x) h k =
 pub filled_zeros : (x : List ℕ) → length x ≤ 32 → filled x ≡ x ++ zeros (32 - length x)
 unfolding filled
 filled_zeros x h = take_padded 32 32 x h (omega arith)
+
+-- the front of a string that a block has room for, then zeros
+front_zeros : (m k : ℕ) (x : List ℕ) → m ≤ k → take (min (length x) m) x ++ drop (min (length x) m) (zeros m) ≡ take m (x ++ zeros k)
+front_zeros m k [] h = let e : min 0 m ≡ 0 = omega arith in rw e (sym (take-replicate m k 0 h))
+front_zeros zero k (b ∷ x) h = let e : min (suc (length x)) 0 ≡ 0 = omega arith in rw e
+front_zeros (suc m) k (b ∷ x) h =
+    let e : min (suc (length x)) (suc m) ≡ suc (min (length x) m) = omega arith in
+    rw e (ap (λ (l : List ℕ). b ∷ l) (front_zeros m k x (omega arith)))
+
+pub filled_front : (x : List ℕ) → take (min (length x) 32) x ++ drop (min (length x) 32) (zeros 32) ≡ filled x
+unfolding filled
+filled_front x = front_zeros 32 32 x (omega arith)
 
 zeros_beyond : (n i : ℕ) → get_or (zeros n) i 0 ≡ 0
 zeros_beyond zero i = refl

@@ -86,7 +86,7 @@ impl Part {
         if text == output_label(function) {
             return Some(Part::Output);
         }
-        match (function, with_label(Traced::published(), text)) {
+        match (function, Traced::named(text)) {
             (_, Some(place)) => Some(Part::Traced(place)),
             (Function::F5StarStar, None) if text == "MAC_S" => Some(Part::MacS),
             _ => None,

@@ -1,7 +1,7 @@
-ghost use Rattle.std.specs.Prelude.{◌≡◌};
+ghost use Rattle.std.specs.Prelude.{◌≡◌, IfSome};
 ghost use Rattle.cases.specs.Places.{placed, label_of};
 
-use super::labelled::Labelled;
+use super::labelled::{Labelled, with_label};
 
 // The place of a block in a trace: input and output of the first kernel run, IN, input and output of the second, the answer block.
 #[derive(Clone, Copy, PartialEq, Eq)]
@@ -42,8 +42,15 @@ impl Traced {
 
     // The places whose blocks are published: all but the answer block.
     // The 5 is counted by hand: split_last answers an Option that is never none, and the borrow checker does not cover [published @ .., _] yet.
-    pub(crate) fn published() -> &'static [Traced] {
+    fn published() -> &'static [Traced] {
         &Traced::ALL[0..5]
+    }
+
+    // The published block of a label.
+    pub fn named(label: &str) -> Option<Traced>
+        ensures { IfSome result (λ place. label_of place ≡ label.now) }
+    {
+        with_label(Traced::published(), label)
     }
 }
 

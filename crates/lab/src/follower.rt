@@ -22,11 +22,18 @@ impl Follower {
         }
     }
 
-    // The bytes of a source: those given, or the last ones, which are none where there was no such call.
-    fn bytes(&self, source: Source, last: Option<&[u8]>) -> Result<Vec<u8>, AllocError> {
+    // The bytes of a source: those given, or the last ones, which are none where there was no such call. The log is searched
+    // for the last ones alone: searched at every step, a script of given bytes would cost the square of its length.
+    fn bytes<'a, F: FnOnce() -> Option<&'a [u8]>>(
+        &self,
+        source: Source,
+        last: F,
+    ) -> Result<Vec<u8>, AllocError>
+        requires { F.IsAlwaysCallable last }
+    {
         match source {
             Source::Given(bytes) => Ok(bytes),
-            Source::Last => last.unwrap_or_default().to_vec(self.heap),
+            Source::Last => last().unwrap_or_default().to_vec(self.heap),
         }
     }
 
@@ -47,7 +54,7 @@ impl Follower {
             },
             Step::Confirm { serial, res } => Step::Confirm {
                 serial,
-                res: self.bytes(res, latest.res())?,
+                res: self.bytes(res, || latest.res())?,
             },
             Step::Resync {
                 serial,
@@ -55,7 +62,7 @@ impl Follower {
                 scratch,
             } => Step::Resync {
                 serial,
-                auts: self.bytes(auts, latest.auts())?,
+                auts: self.bytes(auts, || latest.auts())?,
                 scratch,
             },
             Step::Lapse { serial } => Step::Lapse { serial },
@@ -66,8 +73,8 @@ impl Follower {
                 auts_room,
                 scratch,
             } => Step::Receive {
-                rand: self.bytes(rand, latest.rand())?,
-                autn: self.bytes(autn, latest.autn())?,
+                rand: self.bytes(rand, || latest.rand())?,
+                autn: self.bytes(autn, || latest.autn())?,
                 room,
                 auts_room,
                 scratch,
@@ -83,7 +90,7 @@ impl Follower {
             } => Step::Trace {
                 end,
                 index,
-                rand: self.bytes(rand, latest.rand())?,
+                rand: self.bytes(rand, || latest.rand())?,
                 size,
                 carried,
                 room,

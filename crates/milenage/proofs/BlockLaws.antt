@@ -1,7 +1,7 @@
 -- Answer blocks, and what they tell.
-use Rattle.std.proofs.Common.{◌≡◌, ℕ, ◌≤◌, List, [], ◌∷◌, length, sym, refl, ap, ◌∙◌, append_assoc, append-nil, arith}
+use Rattle.std.proofs.Common.{◌≡◌, ℕ, ◌≤◌, List, [], ◌∷◌, ◌++◌, length, drop, sym, refl, ap, ◌∙◌, append_assoc, append-nil, arith, length-append}
 use Rattle.std.specs.List.{concat}
-use Rattle.std.proofs.lemmas.List.{length-take-le}
+use Rattle.std.proofs.lemmas.List.{drop_at, length-take-le}
 use Rattle.block.specs.Bytes.{AreBytes, IsBlock, ◌⊕◌, filled}
 use Rattle.block.proofs.ByteLaws.{length_⊕, ⊕_comm, ⊕_apart, block_⊕, block_filled}
 use Rattle.milenage.specs.declared.question.Question.{Question as Held}
@@ -12,6 +12,10 @@ use Rattle.milenage.specs.Laws.{Sound}
 use Rattle.milenage.proofs.QuestionLaws.{block_input, told_input}
 
 -- ── lengths ──
+
+pub length_temp : (m : Keyed) (rand : List ℕ) → length m.opc ≡ 32 → 32 ≤ length (temp m rand)
+unfolding temp
+length_temp m rand h = omega (arith, length_⊕ (m.forth (filled rand ⊕ m.opc)) m.opc)
 
 pub length_answer : (m : Keyed) (t inn : List ℕ) → length m.opc ≡ 32 → 32 ≤ length (answer m t inn)
 unfolding answer
@@ -66,6 +70,20 @@ unfolding temp
 temp_same m rand rand' e = ap (λ (x : List ℕ). m.forth (x ⊕ m.opc) ⊕ m.opc) e
 
 -- ── the trace ──
+
+-- the trace ends with the answer block
+pub trace_ends : (m : Keyed) → ((x : List ℕ) → IsBlock x → IsBlock (m.forth x)) → Sound m
+    → (rand : List ℕ) (q : Question) → AreBytes rand → Admissible q → AreBytes q.carried → drop 160 (trace_of m rand q) ≡ block m rand q
+unfolding trace_of
+trace_ends m f s rand q h a c =
+    let x : List ℕ = filled rand ⊕ m.opc in
+    let inn : List ℕ = input m.constants q in
+    let y : List ℕ = temp m rand ⊕ inn in
+    let hx : IsBlock x = block_⊕ (filled rand) m.opc (block_filled rand h) s.opc in
+    let hi : IsBlock inn = block_input m.constants q s.constants_long s.constants_bytes a c in
+    let hy : IsBlock y = block_⊕ (temp m rand) inn (block_temp m f s.opc rand h) hi in
+    drop_at (x ++ m.forth x ++ inn ++ y ++ m.forth y) (block m rand q) 160
+    (simp length-append (omega (arith, hx.long, (f x hx).long, hi.long, hy.long, (f y hy).long)))
 
 -- the six blocks as a computation makes them, from TEMP and what the code holds of a question
 pub trace_made : (m n : Keyed) (rand t inn : List ℕ) (h : Held) (q : Question) → Tells h q → n ≡ m

@@ -3,3 +3,4 @@ pub mod Refused
 pub mod Written
 pub mod QuestionLaws
 pub mod BlockLaws
+pub mod ScratchLaws

@@ -1,14 +1,15 @@
 -- IN tells its question.
-use Rattle.std.proofs.Common.{◌≡◌, ℕ, ◌+◌, ◌-◌, ◌*◌, ◌/◌, ◌%◌, ◌<◌, ◌≤◌, min, false, List, ◌∷◌, ◌++◌, length, take, drop, sym, ap, ◌∙◌, subst, ap₂, arith, length-append}
+use Rattle.std.proofs.Common.{◌≡◌, ℕ, ◌+◌, ◌-◌, ◌*◌, ◌/◌, ◌%◌, ◌<◌, ◌≤◌, min, Bool, true, false, cond, ltb, List, ◌∷◌, ◌++◌, length, take, drop, sym, refl, ap, ◌∙◌, subst, ap₂, arith, length-append}
 use lib.Bits.{bit_xor, xor_zero_r}
 use Rattle.std.proofs.lemmas.List.{length-take, length-drop}
-use Rattle.std.proofs.lemmas.Bool.{ltb-false}
+use Rattle.std.proofs.lemmas.Bool.{ltb-false, le-ltb}
 use Rattle.block.specs.Bytes.{AreBytes, IsBlock, ◌⊕◌, zeros}
-use Rattle.block.proofs.ByteLaws.{bytes_zeros, bytes_cons, bytes_append, bytes_take, bytes_drop, ⊕_apart, block_⊕, block_filled, filled_⊕}
+use Rattle.block.proofs.ByteLaws.{bytes_zeros, bytes_cons, bytes_append, bytes_take, bytes_drop, length_⊕, ⊕_apart, block_⊕, length_filled, block_filled, filled_⊕}
 use Rattle.milenage.specs.declared.question.Question.{Question as Held}
-use Rattle.milenage.specs.Functions.{Kind, authentication, response, session_key, anonymity_key, resynchronisation_key, kind_of, bad_size, bad_carried}
+use Rattle.milenage.specs.Functions.{Kind, authentication, response, session_key, anonymity_key, resynchronisation_key, kind_of, bad_rand, bad_size, bad_carried}
 use Rattle.milenage.specs.Question.{Question, Admissible, SameQuestion, byte0, byte1, header, constant_of, input}
-use Rattle.milenage.specs.Calls.{Tells, input_of}
+use Rattle.milenage.specs.Grounds.{question_ground}
+use Rattle.milenage.specs.Calls.{asked, Tells, input_of}
 use Rattle.milenage.proofs.SizeLaws.{within}
 
 -- the code's IN of a question is the question's
@@ -16,7 +17,31 @@ pub told_input : (constants : List ℕ) (h : Held) (q : Question) → Tells h q 
 unfolding input_of input
 told_input constants h q t = ap₂ (λ (x : List ℕ) (i : ℕ). x ⊕ (zeros 16 ++ constant_of constants i)) t.header t.index
 
+-- ── which questions are admissible ──
+
+all_free : (a b r d : Bool) → ◌≡◌ {A = ℕ} (cond a 5 (cond b 6 (cond r 9 (cond d 11 0)))) 0 → (a ≡ false) × (b ≡ false) × (r ≡ false) × (d ≡ false)
+all_free true b r d h = absurd (omega arith)
+all_free false true r d h = absurd (omega arith)
+all_free false false true d h = absurd (omega arith)
+all_free false false false true h = absurd (omega arith)
+all_free false false false false h = (refl, refl, refl, refl)
+
+-- a question without a ground against it is admissible, and the other way round
+pub taken_admissible : (index rand_size size : ℕ) (carried : List ℕ) → question_ground index rand_size size (length carried) ≡ 0 → Admissible (asked index rand_size size carried)
+taken_admissible index rand_size size carried h =
+    let f = all_free (ltb 7 index) (bad_size (kind_of index) size) (bad_rand rand_size) (bad_carried (kind_of index) (length carried)) h in
+    record { index = omega (arith, ltb-false 7 index f.0); rand = f.2; size = f.1; carried = f.3 }
+
+pub admissible_taken : (q : Question) → Admissible q → question_ground q.index q.rand_size q.size (length q.carried) ≡ 0
+admissible_taken q a =
+    let i : ltb 7 q.index ≡ false = le-ltb 7 q.index (omega (arith, a.index)) in
+    rw (i, a.size, a.rand, a.carried)
+
 -- ── lengths and bytes ──
+
+pub length_header : (q : Question) → length (header q) ≡ 32
+unfolding header
+length_header q = length_filled _
 
 -- sixteen zeros, then a constant
 masks : List ℕ → ℕ → List ℕ
@@ -26,6 +51,18 @@ length_masks : (constants : List ℕ) (i : ℕ) → length constants ≡ 128 →
 unfolding masks
 length_masks constants i l h =
     omega (arith, length-append (zeros 16) (constant_of constants i), length-take 16 (drop (16 * i) constants), length-drop (16 * i) constants)
+
+-- IN is as long as a block
+pub length_input : (constants : List ℕ) (q : Question) → length (input constants q) ≡ 32
+unfolding input
+length_input constants q =
+    omega (
+      arith,
+      length_⊕ (header q) (zeros 16 ++ constant_of constants q.index),
+      length_header q,
+      length-append (zeros 16) (constant_of constants q.index),
+      length-take 16 (drop (16 * q.index) constants),
+    )
 
 -- byte 0 and byte 1 are bytes
 pub byte0_is_byte : (q : Question) → Admissible q → byte0 q.index q.rand_size < 256

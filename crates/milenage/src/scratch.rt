@@ -1,4 +1,4 @@
-ghost use Rattle.std.specs.Prelude.{◌≡◌, ◌<◌, ◌≤◌, [], ◌∷◌, length, MatchOption};
+ghost use Rattle.std.specs.Prelude.{◌≡◌, ◌<◌, ◌≤◌, [], ◌∷◌, length, take, drop, IfSome, MatchOption};
 
 use kernel::Kernel;
 
@@ -6,9 +6,10 @@ use kernel::Kernel;
 pub type Work = [[u8; 32]; 2];
 
 // The blocks at the front of lent scratch bytes: one for TEMP, which stays for every question, and those of a kernel run. None where they are fewer than 96.
-// What they hold, and what the scratch ends as, is not said: they are written before they are read, and whoever lends a scratch wipes it.
+// What the scratch ends as is not said: whoever lends it wipes it.
 pub fn split_scratch(scratch: &mut [u8]) -> Option<(&mut [u8; 32], &mut Work)>
-    ensures { MatchOption result (length scratch.old < 96) (λ _. 96 ≤ length scratch.old) }
+    ensures size { MatchOption result (length scratch.old < 96) (λ _. 96 ≤ length scratch.old) }
+    ensures front { IfSome result (λ p. (p.0.now ≡ take 32 scratch.old) × (p.1.now ≡ take 32 (drop 32 scratch.old) ∷ take 32 (drop 64 scratch.old) ∷ [])) }
 {
     let (blocks, _) = scratch.as_chunks_mut::<32>();
     let (temp, rest) = blocks.split_first_mut()?;

@@ -13,7 +13,9 @@ impl fmt::Display for Hex<'_> {
         if let Some((first, others)) = self.0.split_first() {
             write!(f, "{first:02x}")?;
             for b in others {
-                write!(f, "{between}{b:02x}")?;
+                // not in one format text: what stands between is written as it is, and costs no argument of a format for each byte
+                f.write_str(between)?;
+                write!(f, "{b:02x}")?;
             }
         }
         Ok(())

@@ -55,8 +55,8 @@ impl<'a> Fields<'a> {
             .split(' ')
             .filter(|word| !word.is_empty())
             .all(|word| is_known(word, names));
-        let once = names.iter().all(|name| self.times(*name) <= 1);
-        if known && once {
+        // counted only where each is known: the words are gone through once more for every name
+        if known && names.iter().all(|name| self.times(*name) <= 1) {
             Ok(())
         } else {
             Err(Expected::Fields)

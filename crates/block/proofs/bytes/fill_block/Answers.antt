@@ -1,11 +1,11 @@
-use Rattle.std.proofs.Common.{rules, ◌≡◌, get_or, sym, ◌∙◌}
-use Rattle.block.specs.Bytes.{filled}
-use Rattle.block.proofs.ByteLaws.{length_filled, get_or_filled}
-use Rattle.block.proofs.Made.{made_bytes}
+use Rattle.std.proofs.Common.{◌≡◌, ℕ, ◌-◌, min, List, length, arith}
+use Rattle.block.proofs.ByteLaws.{filled_front}
 use Rattle.block.proofs.bytes.fill_block.Goals as goal
 
 pub returns : goal.returns
 returns c =
-    made_bytes _ _ (filled c.args.bytes.now) 32
-    (λ k y q h e. (let z : y ≡ get_or c.args.bytes.now k 0 = search rules in z ∙ sym (get_or_filled c.args.bytes.now k h), search rules))
-    _ (length_filled c.args.bytes.now) c.from_fn.ensures.items
+    let x : List ℕ = c.args.bytes.now in
+    let n : ℕ = c.min-n.result in
+    let k : n - 0 ≡ min (length x) 32 = omega (arith, c.min-n.ensures) in
+    let w = c.copy_from_slice.ensures.after in
+    rw (w, k) (filled_front x)
