@@ -9,14 +9,12 @@ pub struct Hex<'a>(pub &'a [u8]);
 
 impl fmt::Display for Hex<'_> {
     fn fmt<W: fmt::Write>(&self, f: &mut fmt::Formatter<W>) -> fmt::Result {
-        let between = if f.alternate() { "" } else { " " };
-        if let Some((first, others)) = self.0.split_first() {
-            write!(f, "{first:02x}")?;
-            for b in others {
-                // not in one format text: what stands between is written as it is, and costs no argument of a format for each byte
-                f.write_str(between)?;
-                write!(f, "{b:02x}")?;
+        for (i, b) in self.0.iter().enumerate() {
+            // A space as it is: what stands between as a text of its own costs more than the digits of a byte.
+            if i > 0 && !f.alternate() {
+                f.write_str(" ")?;
             }
+            write!(f, "{b:02x}")?;
         }
         Ok(())
     }
